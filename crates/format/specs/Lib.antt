@@ -1,0 +1,5 @@
+pub mod Circuit
+pub mod Source
+pub mod Legal
+pub mod File
+pub mod Fixing

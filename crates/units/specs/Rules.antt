@@ -1,0 +1,54 @@
+-- The arithmetic of document 01's step rules 4 to 6.
+use Prim.Native.Nat.{ℕ, _+_, _-_, _*_, _/_, min, max}
+use Rattle.units.specs.declared.Ohms.{Ohms}
+use Rattle.units.specs.declared.Femtofarads.{Femtofarads}
+use Rattle.units.specs.declared.Picoseconds.{Picoseconds}
+use Rattle.units.specs.declared.Resistance.{Resistance}
+use Rattle.units.specs.declared.Resistance.the-variants.{Infinite, Finite}
+use Rattle.units.specs.Units.{ohms, femtofarads, picoseconds}
+
+-- a / b, rounded up
+unfoldable pub ceilDiv : ℕ → ℕ → ℕ
+ceilDiv a b = (a + (b - 1)) / b
+
+-- Rule 4: the most ohms of a finite result. A finite resistance stays finite: it becomes the ceiling and is used so from there on.
+abbrev pub ceiling : ℕ
+ceiling = 1000000000
+
+abbrev pub capped : ℕ → Resistance
+capped n = Finite (ohms (min n ceiling))
+
+-- Rule 4: two resistances in parallel, infinite being neutral
+unfoldable pub parallel : Resistance → Resistance → Resistance
+parallel Infinite b = b
+parallel (Finite a) Infinite = Finite a
+parallel (Finite a) (Finite b) = Finite (ohms (ceilDiv (a .0 * b .0) (a .0 + b .0)))
+
+-- Rule 4: one side of an arm, a transistor of resistance r before a node sum. `side` is that side of the far node's sum, `other`
+-- its other side: an arm's high side is armSide r high low, its low side armSide r low high, both of the sum as it was.
+unfoldable pub armSide : Ohms → Resistance → Resistance → Resistance
+armSide r Infinite other = Infinite
+armSide r (Finite side) Infinite = capped (side .0 + r .0)
+armSide r (Finite side) (Finite other) = capped (side .0 + r .0 + ceilDiv (r .0 * side .0) (other .0))
+
+-- Rules 4 and 6: charges joined
+abbrev pub joined : Femtofarads → Femtofarads → Femtofarads
+joined a b = femtofarads (a .0 + b .0)
+
+-- Rule 6: the resistance of an arm of the delay walk: R + r, with the ceiling of rule 4
+abbrev pub delayArm : Ohms → Resistance → Resistance
+delayArm r far = armSide r far Infinite
+
+-- Rule 6: the share of the far charge C that an arm passes on: C × R / (R + r) rounded up, all of it where R is infinite
+unfoldable pub share : Ohms → Resistance → Femtofarads → Femtofarads
+share r Infinite c = c
+share r (Finite far) c = femtofarads (ceilDiv (c .0 * far .0) (far .0 + r .0))
+
+-- Rule 6: the delay where nothing drives
+abbrev pub undrivenDelay : ℕ
+undrivenDelay = 1
+
+-- Rule 6: the delay of a node with resistance R and charge C
+unfoldable pub delay : Resistance → Femtofarads → Picoseconds
+delay Infinite c = picoseconds undrivenDelay
+delay (Finite r) c = picoseconds (max 1 (ceilDiv (r .0 * c .0) 1000))
