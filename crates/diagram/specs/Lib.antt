@@ -1,0 +1,6 @@
+pub mod Pattern
+pub mod Table
+pub mod Sound
+pub mod Store
+pub mod Operation
+pub mod Call
