@@ -1,0 +1,9 @@
+pub mod State
+pub mod Arrive
+pub mod Group
+pub mod Kept
+pub mod Sum
+pub mod Delay
+pub mod Step
+pub mod Run
+pub mod Call

@@ -1,0 +1,64 @@
+-- Step rules 5 to 7 together: the next change of a node; start and step for one pattern.
+use Prim.Native.Nat.{ℕ, _+_, min}
+use mathlib.Core.List.{List, map}
+use mathlib.Core.Bool.{cond}
+use mathlib.Core.Option.{none}
+use lib.ListN.{length}
+use lib.Dec.{leb, eqb}
+use Rattle.units.specs.Rules as units
+use Rattle.format.specs.Circuit.{Circuit, nodeRecord}
+use Rattle.diagram.specs.Table.{never}
+use Rattle.rules.specs.State.{State, valueAt, changeAt, isInner, nodeNumbers}
+use Rattle.rules.specs.Arrive.{sourceAt, arrived}
+use Rattle.rules.specs.Group.{reconsidered}
+use Rattle.rules.specs.Kept.{Channel, kept}
+use Rattle.rules.specs.Sum.{nodeSum, newValue}
+use Rattle.rules.specs.Delay.{Load, nodeLoad}
+
+-- rule 5 for node n, over the kept channels
+unfoldable pub target : Circuit → State → List Channel → ℕ → ℕ
+target c s ks n = newValue (nodeSum (length (c .nodes)) c s ks none n) (valueAt s n)
+
+-- rule 6: the delay of node n to a new value
+unfoldable pub delayTo : Circuit → State → List Channel → ℕ → ℕ → ℕ
+delayTo c s ks new n =
+    let load = nodeLoad (length (c .nodes)) new c s ks none n in
+    units.delay (load .resistance) (load .charge) .0
+
+-- past the horizon a change is never
+abbrev pub inHorizon : Circuit → ℕ → ℕ
+inHorizon c time = cond (leb time (c .horizon .0)) time never
+
+-- rules 5 to 7: the next change of a reconsidered node at T
+unfoldable pub nextChange : Circuit → ℕ → State → List Channel → ℕ → ℕ
+nextChange c time s ks n =
+    cond (eqb (target c s ks n) (valueAt s n))
+    never
+    (inHorizon c (min (changeAt s n) (time + delayTo c s ks (target c s ks n) n)))
+
+-- one step to T for one pattern: all of T happens, then the nodes of touched groups are reconsidered
+unfoldable pub stepped : Circuit → ℕ → ℕ → State → State
+stepped c time p s =
+    let after = arrived c time p s in
+    let ks = kept c after in
+    record {
+      values = after .values;
+      changes = map (λ (n : ℕ). cond (reconsidered c s after n) (nextChange c time after ks n) (changeAt after n)) (nodeNumbers c);
+    }
+
+-- the nodes at their sources, with no change pending
+unfoldable pub initial : Circuit → ℕ → State
+initial c p = record {
+  values = map (λ (n : ℕ). sourceAt (nodeRecord c n .start) p) (nodeNumbers c);
+  changes = map (λ (n : ℕ). never) (nodeNumbers c);
+}
+
+-- the start for one pattern: every group is touched, at time 0
+unfoldable pub started : Circuit → ℕ → State
+started c p =
+    let s = initial c p in
+    let ks = kept c s in
+    record {
+      values = s .values;
+      changes = map (λ (n : ℕ). cond (isInner c n) (nextChange c 0 s ks n) never) (nodeNumbers c);
+    }
