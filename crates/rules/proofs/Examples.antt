@@ -2,7 +2,7 @@
 use mathlib.Core.Path.{_≡_, refl}
 use mathlib.Core.Bool.{true, false}
 use mathlib.Core.List.{List, [], _∷_, _++_}
-use Prim.Native.Nat.{ℕ}
+use Prim.Native.Nat.{ℕ, zero, suc}
 use lib.ListN.{length}
 use Rattle.lists.specs.Tests.{below}
 use Rattle.units.specs.Units.{ohms, femtofarads, picoseconds}
@@ -32,24 +32,13 @@ inverter = record {
   schedule = record { input = 2; source = 4; time = picoseconds 200 } ∷ [];
 }
 
-abbrev after0 : Moment
-after0 = startMoment inverter fresh
+-- the time and the used count at a moment and after each of some steps
+run : ℕ → Circuit → Moment → List ℕ
+run zero c m = m .run .time ∷ m .run .used ∷ []
+run (suc n) c m =
+    let next = stepMoment c m in
+    m .run .time ∷ m .run .used ∷ run n c next
 
-abbrev after1 : Moment
-after1 = stepMoment inverter after0
-
-abbrev after2 : Moment
-after2 = stepMoment inverter after1
-
-abbrev after3 : Moment
-after3 = stepMoment inverter after2
-
--- the time and the used count after the start and after each step
-run : List ℕ
-run =
-    after0 .run .time ∷ after0 .run .used ∷ after1 .run .time ∷ after1 .run .used
-    ∷ after2 .run .time ∷ after2 .run .used ∷ after3 .run .time ∷ after3 .run .used ∷ []
-
-inverter-run : run ≡ 0 ∷ 5 ∷ 200 ∷ 11 ∷ 250 ∷ 14 ∷ 300 ∷ 14 ∷ []
+inverter-run : run 3 inverter (startMoment inverter fresh) ≡ 0 ∷ 5 ∷ 200 ∷ 11 ∷ 250 ∷ 14 ∷ 300 ∷ 14 ∷ []
 unfolding run ceilDiv parallel armSide share delay every numberFrom find add join both store upFrom sourceAt scheduled arrived linkFrom groups some touched keptFrom kept overArms nodeSum newValue nodeLoad target delayTo nextChange stepped initial started soonest patternTime leastBelow nextTime stateOf storeAll momentOf startMoment timeAfter stepMoment
 inverter-run = refl
