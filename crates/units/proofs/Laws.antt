@@ -1,0 +1,159 @@
+-- Laws of the arithmetic of step rules 4 to 6. Those of division rounded up stand in Rounding.
+use mathlib.Core.Path.{_≡_, refl, subst}
+use Prim.Native.Nat.{ℕ, _+_, _*_, _-_, _^_, _≤_, _<_, max}
+use native.Mathlib.Nat.{add-comm, mul-comm, mul-pos, le-trans, le-refl}
+use native.Mathlib.Omega.{arith}
+use Rattle.units.specs.declared.Ohms.{Ohms}
+use Rattle.units.specs.declared.Femtofarads.{Femtofarads}
+use Rattle.units.specs.declared.Resistance.{Resistance}
+use Rattle.units.specs.declared.Resistance.the-variants.{Infinite, Finite}
+use Rattle.units.specs.Rules.{ceiling, capped, parallel, armSide, share, delay}
+use Rattle.units.specs.Range.{AtLeast, AtMost, Positive, InRange}
+use Rattle.units.proofs.Rounding.{ceilDiv-least, ceilDiv-factor, ceilDiv-positive, ceilDiv-at-most, product-within}
+
+-- a finite resistance is never infinite
+pub finite-not-infinite : {a : Ohms} → Finite a ≡ Infinite → ⊥
+finite-not-infinite e = let z : _≡_ {A = ℕ} 0 1 = cc in omega arith
+
+-- the ohms of a resistance that is positive and finite
+pub positive-at : {a : Resistance} {b : Ohms} → a ≡ Finite b → Positive a → 1 ≤ b .0
+positive-at e h = subst Positive e h
+
+-- a bound from above may be loosened
+pub at-most-weaken : {m n : ℕ} (a : Resistance) → m ≤ n → AtMost m a → AtMost n a
+at-most-weaken Infinite h p = p
+at-most-weaken (Finite a) h p = le-trans p h
+
+-- in parallel, infinite is neutral on the left
+pub parallel-infinite-left : (a : Resistance) → parallel Infinite a ≡ a
+unfolding parallel
+parallel-infinite-left a = refl
+
+-- and on the right
+pub parallel-infinite-right : (a : Resistance) → parallel a Infinite ≡ a
+unfolding parallel
+parallel-infinite-right Infinite = refl
+parallel-infinite-right (Finite a) = refl
+
+-- two in parallel are infinite only where both are
+pub parallel-infinite-both : (a b : Resistance) → parallel a b ≡ Infinite → (a ≡ Infinite) × (b ≡ Infinite)
+unfolding parallel
+parallel-infinite-both Infinite b e = (refl, e)
+parallel-infinite-both (Finite a) Infinite e = absurd (finite-not-infinite e)
+parallel-infinite-both (Finite a) (Finite b) e = absurd (finite-not-infinite e)
+
+-- two in parallel may be exchanged
+pub parallel-comm : (a b : Resistance) → parallel a b ≡ parallel b a
+unfolding parallel
+parallel-comm Infinite Infinite = refl
+parallel-comm Infinite (Finite b) = refl
+parallel-comm (Finite a) Infinite = refl
+parallel-comm (Finite a) (Finite b) = rw (mul-comm (a .0) (b .0), add-comm (a .0) (b .0))
+
+-- two in parallel are positive where both are
+pub parallel-positive : (a b : Resistance) → Positive a → Positive b → Positive (parallel a b)
+unfolding parallel
+parallel-positive Infinite b p q = q
+parallel-positive (Finite a) Infinite p q = p
+parallel-positive (Finite a) (Finite b) p q = ceilDiv-positive (omega arith) (mul-pos p q)
+
+-- two in parallel are at most the first, where that is finite
+pub parallel-at-most-left : (a : Ohms) (b : Resistance) → AtMost (a .0) (parallel (Finite a) b)
+unfolding parallel
+parallel-at-most-left a Infinite = le-refl (a .0)
+parallel-at-most-left a (Finite b) = ceilDiv-factor (a .0) (omega arith)
+
+-- and at most the second, where that is finite
+pub parallel-at-most-right : (a : Resistance) (b : Ohms) → AtMost (b .0) (parallel a (Finite b))
+parallel-at-most-right a b = rw (parallel-comm a (Finite b)) (parallel-at-most-left b a)
+
+-- a bound on both is one on the two in parallel
+pub parallel-at-most : (n : ℕ) (a b : Resistance) → AtMost n a → AtMost n b → AtMost n (parallel a b)
+parallel-at-most n Infinite b p q = rw (parallel-infinite-left b) q
+parallel-at-most n (Finite a) b p q = at-most-weaken (parallel (Finite a) b) p (parallel-at-most-left a b)
+
+-- and so two of an arm's range stay in it
+pub parallel-in-range : (a b : Resistance) → InRange a → InRange b → InRange (parallel a b)
+parallel-in-range a b p q = record {
+  positive = parallel-positive a b (p .positive) (q .positive);
+  atMost = parallel-at-most ceiling a b (p .atMost) (q .atMost);
+}
+
+-- an arm's side is infinite where the far node's is
+pub armSide-infinite : (r : Ohms) (other : Resistance) → armSide r Infinite other ≡ Infinite
+unfolding armSide
+armSide-infinite r other = refl
+
+-- before a node with no other side, r is added
+pub armSide-series : (r side : Ohms) → armSide r (Finite side) Infinite ≡ capped (side .0 + r .0)
+unfolding armSide
+armSide-series r side = refl
+
+-- where the far node's side is finite the arm's is, capped or not
+pub armSide-finite : (r side : Ohms) (other : Resistance) → (n : Ohms) × (armSide r (Finite side) other ≡ Finite n)
+unfolding armSide
+armSide-finite r side Infinite = (_, refl)
+armSide-finite r side (Finite other) = (_, refl)
+
+-- so it is infinite only where the far node's is
+pub armSide-infinite-only : (r : Ohms) (side other : Resistance) → armSide r side other ≡ Infinite → side ≡ Infinite
+unfolding armSide
+armSide-infinite-only r Infinite other e = refl
+armSide-infinite-only r (Finite side) Infinite e = absurd (finite-not-infinite e)
+armSide-infinite-only r (Finite side) (Finite other) e = absurd (finite-not-infinite e)
+
+-- an arm's side is at most the ceiling
+pub armSide-at-most : (r : Ohms) (side other : Resistance) → AtMost ceiling (armSide r side other)
+unfolding armSide
+armSide-at-most r Infinite other = tt
+armSide-at-most r (Finite side) Infinite = omega arith
+armSide-at-most r (Finite side) (Finite other) = omega arith
+
+-- an arm's side is at least r, up to the ceiling
+pub armSide-at-least : (n : ℕ) (r : Ohms) (side other : Resistance) → n ≤ r .0 → n ≤ ceiling → AtLeast n (armSide r side other)
+unfolding armSide
+armSide-at-least n r Infinite other h k = tt
+armSide-at-least n r (Finite side) Infinite h k = omega arith
+armSide-at-least n r (Finite side) (Finite other) h k = omega arith
+
+-- an arm's sides are in range where r is not 0
+pub armSide-in-range : (r : Ohms) (side other : Resistance) → 1 ≤ r .0 → InRange (armSide r side other)
+armSide-in-range r side other h = record {
+  positive = armSide-at-least 1 r side other h (omega arith);
+  atMost = armSide-at-most r side other;
+}
+
+-- all of the charge is passed on where nothing leads to the value
+pub share-infinite : (r : Ohms) (c : Femtofarads) → share r Infinite c ≡ c
+unfolding share
+share-infinite r c = refl
+
+-- no more than the charge is passed on
+pub share-at-most : (r : Ohms) (far : Resistance) (c : Femtofarads) → share r far c .0 ≤ c .0
+unfolding share
+share-at-most r Infinite c = le-refl (c .0)
+share-at-most r (Finite far) c = ceilDiv-factor (c .0) (omega arith)
+
+-- something of a charge is passed on, unless the far resistance is 0
+pub share-positive : (r : Ohms) (far : Resistance) (c : Femtofarads) → Positive far → 1 ≤ c .0 → 1 ≤ share r far c .0
+unfolding share
+share-positive r Infinite c p h = h
+share-positive r (Finite far) c p h = ceilDiv-positive (omega arith) (mul-pos h p)
+
+-- a delay is at least 1
+pub delay-positive : (r : Resistance) (c : Femtofarads) → 1 ≤ delay r c .0
+unfolding delay
+delay-positive Infinite c = le-refl 1
+delay-positive (Finite r) c = omega arith
+
+-- a delay is at most the product, and 1 where that is 0
+pub delay-at-most : (r : Ohms) (c : Femtofarads) → delay (Finite r) c .0 ≤ max 1 (r .0 * c .0)
+unfolding delay
+delay-at-most r c = omega (arith, ceilDiv-at-most {b = 1000} (omega arith) (r .0 * c .0))
+
+-- the delay of any ohms and femtofarads of 32 bits
+pub delay-within : (r : Resistance) (c : Femtofarads) → AtMost (2 ^ 32 - 1) r → c .0 < 2 ^ 32 → delay r c .0 < 2 ^ 55
+unfolding delay
+delay-within Infinite c p h = omega arith
+delay-within (Finite r) c p h =
+    omega (arith, ceilDiv-least {a = r .0 * c .0} {c = 2 ^ 55 - 1} 1000 (omega (arith, product-within {a = r .0} {b = c .0} (omega arith) h)))

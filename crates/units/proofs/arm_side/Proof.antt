@@ -1,0 +1,100 @@
+-- `arm_side` follows its definition's three cases; the sum fits 64 bits because the quotient is at most the product.
+use mathlib.Core.Path.{_∙_, ap}
+use Prim.Native.Nat.{ℕ, _+_, _*_}
+use native.Mathlib.Omega.{arith}
+use Rattle.units.specs.Rules.{armSide, capped}
+use Rattle.units.proofs.Rounding.{ceilDiv-at-most, product-within}
+use Rattle.units.proofs.Laws.{positive-at}
+use borrow.Author.Needs.{needs}
+use Rattle.units.proofs.arm_side.Statement.{statement}
+use Rattle.units.proofs.arm_side.Tie as tie
+
+enum-told : tie.Need-enum-told
+enum-told c = search needs
+
+enum-known-side : tie.Need-enum-known-side
+enum-known-side c = search needs
+
+enum-told-2 : tie.Need-enum-told-2
+enum-told-2 c = search needs
+
+cast-capped : tie.Need-cast-capped
+cast-capped c = search needs
+
+cast-capped-2 : tie.Need-cast-capped-2
+cast-capped-2 c = search needs
+
+add-capped : tie.Need-add-capped
+add-capped c = search needs
+
+capped-requires : tie.Need-capped-requires
+capped-requires c κs = search needs
+
+enum-known-other : tie.Need-enum-known-other
+enum-known-other c = search needs
+
+cast-capped-3 : tie.Need-cast-capped-3
+cast-capped-3 c = search needs
+
+cast-capped-4 : tie.Need-cast-capped-4
+cast-capped-4 c = search needs
+
+add-capped-2 : tie.Need-add-capped-2
+add-capped-2 c = search needs
+
+cast-scaled : tie.Need-cast-scaled
+cast-scaled c = search needs
+
+scaled-requires : tie.Need-scaled-requires
+scaled-requires c κs =
+    let other = c .before .before .before .before .other .given in
+    (positive-at (other .1) (c .before .before .before .before .before .before .before .before .before .pre), omega arith)
+
+add-capped-3 : tie.Need-add-capped-3
+add-capped-3 c =
+    let other = c .before .before .before .before .before .other .given in
+    let start = c .before .before .before .before .before .before .before .before .before .before in
+    let r = start .args .r .0 in
+    let side = c .before .before .before .before .before .before .before .before .side .given .0 .0 .0 in
+    omega (arith, c .scaled .ensures, ceilDiv-at-most (positive-at (other .1) (start .pre)) (r * side), product-within {a = r} {b = side} (omega arith) (omega arith))
+
+capped-requires-2 : tie.Need-capped-requires-2
+capped-requires-2 c κs = search needs
+
+returns : tie.Need-returns
+unfolding armSide
+returns c = rw (c .enum-told .given .1)
+
+returns-2 : tie.Need-returns-2
+unfolding armSide
+returns-2 c = rw (c .before .before .before .before .before .before .side .given .1, c .before .before .before .enum-told2 .given .1) (c .capped .ensures)
+
+returns-3 : tie.Need-returns-3
+unfolding armSide
+returns-3 c =
+    let side = c .before .before .before .before .before .before .before .before .before .side .given in
+    let r = c .before .before .before .before .before .before .before .before .before .before .before .args .r in
+    rw (side .1, c .before .before .before .before .before .before .other .given .1) (c .capped2 .ensures ∙ ap (λ (n : ℕ). capped (side .0 .0 .0 + r .0 + n)) (c .before .scaled .ensures))
+
+pub arm-side-spec : {M : Type 1} → statement M
+arm-side-spec =
+    tie.close
+    (tie.spec
+    enum-told
+    enum-known-side
+    enum-told-2
+    cast-capped
+    cast-capped-2
+    add-capped
+    capped-requires
+    enum-known-other
+    cast-capped-3
+    cast-capped-4
+    add-capped-2
+    cast-scaled
+    scaled-requires
+    add-capped-3
+    capped-requires-2
+    returns
+    returns-2
+    returns-3)
