@@ -1,2 +1,5 @@
 pub mod Examples
 pub mod Every
+pub mod Check
+pub mod Chain
+pub mod Read
