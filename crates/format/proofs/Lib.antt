@@ -3,3 +3,4 @@ pub mod Every
 pub mod Check
 pub mod Chain
 pub mod Read
+pub mod Legal
