@@ -4,3 +4,4 @@ pub mod Check
 pub mod Chain
 pub mod Read
 pub mod Legal
+pub mod Fixing
