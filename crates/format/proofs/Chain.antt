@@ -78,6 +78,10 @@ module _ (file : List ℕ) (count kind : ℕ) where
       let g = chain-goes n r rs e in
       rw (g .split) (chain-member n (nextAt file r) (g .rest) (g .onward) i (le-of-suc-le-suc h))
 
+  -- the same, by the length of the list
+  pub chain-place : (n r : ℕ) (rs : List ℕ) → chain file count kind n r ≡ some rs → (i : ℕ) → i < length rs → Member file count kind (getD rs i 0)
+  chain-place n r rs e i h = chain-member n r rs e i (rw (chain-length n r rs e) at h)
+
   -- from place i on, a chain is the chain from that record
   pub chain-from : (n r : ℕ) (rs : List ℕ) → chain file count kind n r ≡ some rs → (i : ℕ) → i < n → chain file count kind (n - i) (getD rs i 0) ≡ some (drop i rs)
   chain-from zero r rs e i h = absurd (omega arith)

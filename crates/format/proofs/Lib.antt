@@ -5,3 +5,4 @@ pub mod Chain
 pub mod Read
 pub mod Legal
 pub mod Fixing
+pub mod FixedFile
