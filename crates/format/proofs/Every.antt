@@ -1,5 +1,5 @@
 -- Laws of `every`, of tests joined by &&, and of lists that agree place by place.
-use mathlib.Core.Path.{_≡_, refl, sym, _∙_, ap, ap₂, subst}
+use mathlib.Core.Path.{_≡_, refl, sym, _∙_, ap, ap₂}
 use mathlib.Core.Logic.{_⊎_, inl, inr, ⊎-map}
 use mathlib.Core.Bool.{Bool, true, false, _&&_, and-eq-true-iff, and-true, and-assoc}
 use mathlib.Core.List.{List, [], _∷_, _++_, map}

@@ -54,6 +54,7 @@ inverter-read = refl
 abbrev turned : List ℕ
 turned = set (set (set inverter 8 2) 34 1) 18 0
 
+-- nodes are numbered in chain order: the entry's node 2 is then no input
 chain-order : (number turned ≡ 4) × (number (set turned 84 3) ≡ 0)
 unfolding number
 chain-order = (refl, refl)
@@ -65,11 +66,12 @@ Damage = ℕ × ℕ × ℕ
 abbrev asStated : List ℕ → Damage → Bool
 asStated file d = eqb (number (set file (d .0) (d .1))) (d .2)
 
--- no bytes, and 15, are too few, also where the header is wrong; 95 and 97 are not the stated length, also where a chain is wrong
+-- no bytes, and 15, are too few, also where the header is wrong
 too-short : (number [] ≡ 1) × (number (take 15 inverter) ≡ 1) × (number (take 15 (set inverter 0 25)) ≡ 1)
 unfolding number
 too-short = (refl, refl, refl)
 
+-- 95 and 97 are not the stated length, also where a chain is wrong; a wrong header is found before
 wrong-length : (number (take 95 inverter) ≡ 1) × (number (inverter ++ (0 ∷ [])) ≡ 1) × (number (take 95 (set inverter 8 0)) ≡ 1) × (number (take 95 (set inverter 0 25)) ≡ 2)
 unfolding number
 wrong-length = (refl, refl, refl, refl)
@@ -94,6 +96,7 @@ fieldDamages =
     ∷ (52, 2, 4) ∷ (53, 4, 4) ∷ (54, 4, 4) ∷ (54, 3, 4) ∷ (55, 4, 4) ∷ (55, 1, 4) ∷ (58, 16, 4) ∷ (58, 15, 0)
     ∷ (84, 0, 4) ∷ (84, 1, 4) ∷ (84, 3, 4) ∷ (84, 4, 4) ∷ (85, 6, 4) ∷ (88, 0, 4) ∷ (89, 4, 4) ∷ (89, 3, 0) ∷ []
 
+-- each damage of the inverter is answered as stated
 damages-refused : (every (asStated inverter) headerDamages ≡ true) × (every (asStated inverter) chainDamages ≡ true) × (every (asStated inverter) fieldDamages ≡ true)
 unfolding number every
 damages-refused = (refl, refl, refl)
@@ -115,10 +118,11 @@ blanks-refused : (every (λ i. asStated inverter (i, 1, 2)) headerBlanks ≡ tru
 unfolding number every
 blanks-refused = (refl, refl)
 
--- the header check: 24 nodes and 12 letters pass, 25 and 13 do not
+-- the header check, with one byte changed
 abbrev headerPasses : ℕ → ℕ → Bool
 headerPasses i byte = headerLegal (set inverter i byte)
 
+-- 24 nodes and 12 letters pass, 25 and 13 do not
 header-limits : (headerPasses 0 24 ≡ true) × (headerPasses 0 25 ≡ false) × (headerPasses 3 12 ≡ true) × (headerPasses 3 13 ≡ false)
 unfolding number
 header-limits = (refl, refl, refl, refl)
@@ -146,6 +150,7 @@ orderDamages = (104, 0xc9, 0) ∷ (104, 0xc8, 5) ∷ (104, 0xc7, 5) ∷ []
 abbrev orderLast : List Damage
 orderLast = (101, 6, 4) ∷ (97, 1, 4) ∷ (22, 1, 4) ∷ (10, 0, 3) ∷ (14, 1, 2) ∷ []
 
+-- a schedule that does not rise is refused 5, and only where nothing else is wrong
 order-refused : (every (asStated twoEntries) orderDamages ≡ true) × (every (asStated (set twoEntries 104 0xc8)) orderLast ≡ true)
 unfolding number every
 order-refused = (refl, refl)

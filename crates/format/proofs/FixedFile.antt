@@ -1,28 +1,25 @@
 -- Fixing letters in a file: the file with its source bytes fixed is read as the fixed cell.
 use mathlib.Core.Path.{_≡_, refl, sym, _∙_, ap, ap₂, subst}
-use mathlib.Core.Bool.{Bool, true, false, _&&_, _||_, cond, and-false, or-true}
+use mathlib.Core.Bool.{Bool, true, false, _&&_, _||_, cond, and-false}
 use mathlib.Core.List.{List, [], _∷_, map, map-map}
 use mathlib.Core.Option.{Option, some, none}
 use Prim.Native.Nat.{ℕ, zero, suc, _+_, _-_, _*_, _%_, _≤_, _<_}
 use native.Mathlib.Nat.{add-zero, zero-add}
 use native.Mathlib.Omega.{arith}
 use lib.ListN.{length, getD}
-use lib.Dec.{leb, eqb}
+use lib.Dec.{eqb}
 use borrow.Author.Tests.{le-leb, lt-leb, eq-eqb, ne-eqb}
 use Rattle.units.specs.Units.{ohms, femtofarads, picoseconds}
 use Rattle.refusal.specs.Answer.{answered}
 use Rattle.format.specs.declared.Header.{Header}
-use Rattle.format.specs.declared.Node.{Node}
-use Rattle.format.specs.declared.Transistor.{Transistor}
-use Rattle.format.specs.declared.Entry.{Entry}
-use Rattle.format.specs.Circuit.{Circuit, every}
+use Rattle.format.specs.Circuit.{Circuit}
 use Rattle.format.specs.Legal.{within, limitsKept, fieldsLegal, rising, checkCircuit}
-use Rattle.format.specs.File.{byteAt, halfAt, wordAt, zeroBytes, recordAt, fileHeader, firstNode, firstTransistor, firstEntry, headerLegal, recordCount, statedLength}
+use Rattle.format.specs.File.{byteAt, halfAt, wordAt, zeroBytes, recordAt, fileHeader, headerLegal, recordCount, statedLength}
 use Rattle.format.specs.File.{kindAt, nextAt, nodeKind, transistorKind, entryKind, onto, chain, nodeAt, transistorAt, entryAt}
 use Rattle.format.specs.File.{nodeBlank, transistorBlank, entryBlank, fileCircuit, readCell}
 use Rattle.format.specs.Fixing.{Fixing, fixedSource, fixedNode, fixedEntry, fixed, isSource, fixedBytes, fixedFile}
 use Rattle.format.proofs.Every.{every-same, map-same}
-use Rattle.format.proofs.Check.{Checked, circuit-checked}
+use Rattle.format.proofs.Check.{circuit-checked}
 use Rattle.format.proofs.Chain.{chain-place}
 use Rattle.format.proofs.Read.{Chains, Records, ReadAs, read-as, read-answered, read-checked}
 use Rattle.format.proofs.Fixing.{fixed-constant, rising-fixed, fixed-legal}

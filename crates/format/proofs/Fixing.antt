@@ -1,21 +1,21 @@
 -- Laws of fixing letters in a cell: it stays legal, fixing twice is fixing once, and what fixing nothing and everything gives.
 use mathlib.Core.Path.{_≡_, refl, sym, _∙_, ap, ap₂, subst}
 use mathlib.Core.Logic.{_⊎_, inl, inr, ⊎-elim}
-use mathlib.Core.Bool.{Bool, true, false, _&&_, _||_, cond}
+use mathlib.Core.Bool.{Bool, true, _&&_}
 use mathlib.Core.List.{List, [], _∷_, map, map-map, map-id}
-use Prim.Native.Nat.{ℕ, zero, suc, _+_, _-_, _*_, _/_, _%_, _≤_, _<_}
+use Prim.Native.Nat.{ℕ, _+_, _-_, _*_, _%_, _≤_, _<_}
 use native.Mathlib.Omega.{arith}
 use lib.ListN.{length, getD, length-map, List·getD-map}
-use lib.Dec.{ltb, leb, eqb}
-use borrow.Author.Tests.{ltb-true, ltb-false, lt-ltb, le-ltb}
+use lib.Dec.{leb, eqb}
+use borrow.Author.Tests.{ltb-true, lt-ltb, le-ltb}
 use Rattle.refusal.specs.Answer.{answered}
 use Rattle.format.specs.declared.Node.{Node}
 use Rattle.format.specs.declared.Entry.{Entry}
 use Rattle.format.specs.Circuit.{Circuit, headerOf, noNode, noEntry, nodeRecord, every}
 use Rattle.format.specs.Source.{sourceLegal, constant, letterOf}
-use Rattle.format.specs.Legal.{within, nodeLegal, transistorLegal, isInput, entryLegal, before, risingFrom, rising, checkCircuit}
+use Rattle.format.specs.Legal.{within, nodeLegal, isInput, entryLegal, before, risingFrom, rising, checkCircuit}
 use Rattle.format.specs.Fixing.{Setting, free, low, high, Fixing, setSource, fixedSource, fixedNode, fixedEntry, fixed, settled, andThen, withoutLetters}
-use Rattle.format.proofs.Every.{bool-cases, lt-or-ge, both-first, both-second, both, every-at, every-of, every-map, every-same, map-same, map-at}
+use Rattle.format.proofs.Every.{lt-or-ge, both-first, both-second, both, every-at, every-of, every-map, map-same}
 use Rattle.format.proofs.Check.{Checked, circuit-checked, checked-answered}
 use Rattle.format.proofs.Legal.{fields-apart, fields-joined, legal-node, legal-entry}
 

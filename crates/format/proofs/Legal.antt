@@ -1,7 +1,7 @@
 -- The ranges of a cell that passed the check, as plain facts.
-use mathlib.Core.Path.{_≡_, refl, sym, _∙_, ap, subst}
+use mathlib.Core.Path.{_≡_, ap}
 use mathlib.Core.Logic.{_⊎_, inl, inr, ⊎-elim}
-use mathlib.Core.Bool.{Bool, true, false, not, _&&_, _||_, cond}
+use mathlib.Core.Bool.{Bool, true, false, not, _&&_, cond}
 use mathlib.Core.List.{List, [], _∷_}
 use Prim.Native.Nat.{ℕ, zero, suc, _+_, _-_, _*_, _≤_, _<_}
 use native.Mathlib.Nat.{le-of-suc-le-suc}
@@ -20,7 +20,7 @@ use Rattle.format.specs.Legal.{mostNodes, mostTransistors, mostEntries, 
 use Rattle.format.specs.Legal.{inner, input, nodeLegal, nodeNumber, transistorLegal, isInput, entryLegal, fieldsLegal, before, risingFrom, rising, checkCircuit}
 use Rattle.format.specs.File.{readCell}
 use Rattle.format.proofs.Every.{bool-cases, lt-or-ge, both-first, both-second, both, every-at}
-use Rattle.format.proofs.Check.{Checked, circuit-checked}
+use Rattle.format.proofs.Check.{circuit-checked}
 use Rattle.format.proofs.Read.{read-checked}
 
 -- counts, letters and horizon of a legal cell
@@ -73,10 +73,11 @@ pub record LegalCell (c : Circuit) : Type 0 where
   pub entry : (i : ℕ) → i < length (c .schedule) → LegalEntry c (getD (c .schedule) i noEntry)
   pub order : (i j : ℕ) → i < j → j < length (c .schedule) → Before (getD (c .schedule) i noEntry) (getD (c .schedule) j noEntry)
 
--- a number within its range
+-- a number within its range is at least the range's first
 pub within-least : (least most x : ℕ) → within least most x ≡ true → least ≤ x
 within-least least most x e = leb-true least x (both-first (leb least x) (leb x most) e)
 
+-- and at most the range's last
 pub within-most : (least most x : ℕ) → within least most x ≡ true → x ≤ most
 within-most least most x e = leb-true x most (both-second (leb least x) (leb x most) e)
 
@@ -237,6 +238,7 @@ pub record Fields (c : Circuit) : Type 0 where
   pub transistors : every (transistorLegal (length (c .nodes))) (c .transistors) ≡ true
   pub entries : every (entryLegal c) (c .schedule) ≡ true
 
+-- the test of all records, apart
 pub fields-apart : (c : Circuit) → fieldsLegal c ≡ true → Fields c
 unfolding fieldsLegal
 fields-apart c e =
@@ -249,6 +251,7 @@ fields-apart c e =
       entries = both-second (n && t) s e;
     }
 
+-- and together
 pub fields-joined : (c : Circuit) → Fields c → fieldsLegal c ≡ true
 unfolding fieldsLegal
 fields-joined c k = both (both (k .nodes) (k .transistors)) (k .entries)

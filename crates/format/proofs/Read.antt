@@ -1,21 +1,19 @@
 -- What it is to be read: the parts of the reader's answer, and that a cell that was read passes the check of a cell.
-use mathlib.Core.Path.{_≡_, refl, sym, _∙_, ap, subst}
-use mathlib.Core.Bool.{Bool, true, _&&_}
+use mathlib.Core.Path.{_≡_, sym, _∙_, ap}
+use mathlib.Core.Bool.{true, _&&_}
 use mathlib.Core.List.{List, map}
 use mathlib.Core.Option.{some}
 use Prim.Native.Nat.{ℕ, _≤_}
 use lib.ListN.{length, length-map}
-use lib.Dec.{leb, eqb}
 use borrow.Author.Tests.{leb-true, eqb-true, le-leb, eq-eqb}
 use Rattle.refusal.specs.Answer.{answered}
-use Rattle.format.specs.declared.Header.{Header}
 use Rattle.format.specs.Circuit.{Circuit, headerOf, every}
 use Rattle.format.specs.Legal.{limitsKept, fieldsLegal, rising, checkCircuit}
 use Rattle.format.specs.File.{recordSize, fileHeader, headerLegal, recordCount, statedLength, firstNode, firstTransistor, firstEntry, zeroBytes}
 use Rattle.format.specs.File.{nodeKind, transistorKind, entryKind, chain, nodeAt, transistorAt, entryAt}
-use Rattle.format.specs.File.{nodeBlank, transistorBlank, entryBlank, fileCircuit, chained, readFields, readChains, readCell}
-use Rattle.format.proofs.Every.{both-first, both-second, both}
-use Rattle.format.proofs.Check.{same-answer, check-passed, chained-passed, Checked, checked-answered}
+use Rattle.format.specs.File.{nodeBlank, transistorBlank, entryBlank, fileCircuit, readFields, readChains, readCell}
+use Rattle.format.proofs.Every.{both-first, both-second}
+use Rattle.format.proofs.Check.{same-answer, check-passed, chained-passed, checked-answered}
 use Rattle.format.proofs.Chain.{chain-length}
 
 -- the records of the three chains of a file
