@@ -1,0 +1,16 @@
+//! A second implementation of the tool, written from the requirements alone,
+//! and what is needed to compare the two on many cells.
+//!
+//! The modules here hold the implementation, the makers of cases and the calls
+//! into the tool; the comparisons themselves are the files of `tests/`.
+
+pub mod cell_file;
+pub mod generate;
+pub mod listing;
+pub mod program;
+pub mod random;
+pub mod refusal;
+pub mod replay;
+#[cfg(feature = "editor")]
+pub mod sts;
+pub mod tally;

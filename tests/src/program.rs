@@ -1,0 +1,53 @@
+//! Runs the tool's programs and finds the repository's files.
+
+use std::ffi::OsStr;
+use std::fs;
+use std::io::{self, Write};
+use std::path::{Path, PathBuf};
+use std::process::{Command, Stdio};
+
+/// A path below the repository's root.
+pub fn in_repository(path: &str) -> PathBuf {
+    Path::new(env!("CARGO_MANIFEST_DIR")).join("..").join(path)
+}
+
+/// The files of a folder with this extension, by name.
+pub fn files(folder: &str, extension: &str) -> Vec<PathBuf> {
+    let folder = in_repository(folder);
+    let listed = fs::read_dir(&folder)
+        .unwrap_or_else(|error| panic!("{}: {error}", folder.display()))
+        .map(|entry| entry.map(|entry| entry.path()))
+        .collect::<io::Result<Vec<_>>>();
+    let mut paths = listed.unwrap_or_else(|error| panic!("{}: {error}", folder.display()));
+    paths.retain(|path| path.extension() == Some(OsStr::new(extension)));
+    paths.sort();
+    paths
+}
+
+/// The bytes of a file.
+pub fn bytes(path: &Path) -> Vec<u8> {
+    fs::read(path).unwrap_or_else(|error| panic!("{}: {error}", path.display()))
+}
+
+/// Runs one of the tool's programs on this input and gives what it printed. An
+/// error tells why it could not be run or how it broke off.
+pub fn run(name: &str, input: &[u8]) -> Result<String, String> {
+    let path = in_repository("target/bin").join(name);
+    let told = |error: io::Error| format!("{}: {error}", path.display());
+    let mut child = Command::new(&path)
+        .stdin(Stdio::piped())
+        .stdout(Stdio::piped())
+        .spawn()
+        .map_err(told)?;
+    // The output is small enough for the pipe, so it may wait until all is written.
+    let mut stdin = child.stdin.take().expect("the input is piped");
+    match stdin.write_all(input) {
+        Err(error) if error.kind() != io::ErrorKind::BrokenPipe => return Err(told(error)),
+        _ => drop(stdin),
+    }
+    let output = child.wait_with_output().map_err(told)?;
+    if output.status.code().is_none() {
+        return Err(format!("{}: {}", path.display(), output.status));
+    }
+    String::from_utf8(output.stdout).map_err(|error| format!("{}: {error}", path.display()))
+}
