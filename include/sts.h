@@ -15,8 +15,6 @@
  * told with each call. A refused call leaves all lent arrays as they were, unless
  * the call says otherwise. Any content of any array is answered or refused:
  * the caller has nothing to check first.
- *
- * No call keeps anything between two calls or allocates memory.
  */
 #ifndef STS_H
 #define STS_H
