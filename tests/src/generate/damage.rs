@@ -88,33 +88,28 @@ fn length(random: &mut Random, layout: &mut Layout) {
 }
 
 fn header(random: &mut Random, layout: &mut Layout) {
-    match random.below(7) {
-        0 => count(random, layout, 0, 0),
-        1 => count(random, layout, 1, 0),
-        2 => count(random, layout, 0, *NODES.end()),
-        3 => count(random, layout, 1, *TRANSISTORS.end()),
-        4 => count(random, layout, 2, *ENTRIES.end()),
-        5 => {
-            let letters = random.spread(LETTERS.end() + 1, 255);
-            layout.file[3] = letters as u8;
+    match random.below(6) {
+        0 => {
+            let at = random.index(2);
+            count(random, layout, at, 0);
         }
-        _ => match random.one_in(2) {
-            true => {
-                let horizon = outside(random, *HORIZONS.end());
-                layout.put(4, &horizon.to_le_bytes());
-            }
-            false => not_zero(random, layout, &[14, 15]),
-        },
+        1..=3 => {
+            let (at, range) = random.pick(&[(0, &NODES), (1, &TRANSISTORS), (2, &ENTRIES)]);
+            let wrong = random.spread(range.end() + 1, 255) as u8;
+            count(random, layout, at, wrong);
+        }
+        4 => layout.file[3] = random.spread(LETTERS.end() + 1, 255) as u8,
+        _ if random.one_in(2) => {
+            let horizon = outside(random, *HORIZONS.end());
+            layout.put(4, &horizon.to_le_bytes());
+        }
+        _ => not_zero(random, layout, &[14, 15]),
     }
 }
 
-/// Sets a count to 0, or past its `most` if that is not 0; often the file is as
-/// long as the wrong count says.
-fn count(random: &mut Random, layout: &mut Layout, at: usize, most: u32) {
-    layout.file[at] = match most {
-        0 => 0,
-        _ => random.spread(most + 1, 255) as u8,
-    };
+/// Sets a count; often the file is then as long as the wrong count says.
+fn count(random: &mut Random, layout: &mut Layout, at: usize, wrong: u8) {
+    layout.file[at] = wrong;
     if random.one_in(2) {
         let records: usize = layout.file[..3].iter().copied().map(usize::from).sum();
         layout.file.resize(RECORD * (1 + records), 0);
