@@ -1,0 +1,4 @@
+pub mod Padded
+pub mod Zeros
+pub mod Linked
+pub mod Every

@@ -1,0 +1,176 @@
+-- Laws of chains: their records lie within the file, and a walk along a chain finds it.
+use mathlib.Core.Path.{_≡_, refl, sym, _∙_, ap, subst}
+use mathlib.Core.Bool.{Bool, true, false, _&&_, cond}
+use mathlib.Core.List.{List, [], _∷_, _++_}
+use mathlib.Core.Option.{Option, some, none}
+use Prim.Native.Nat.{ℕ, zero, suc, _+_, _-_, _*_, _<_, _≤_}
+use native.Mathlib.Nat.{not-suc-le-zero, le-of-suc-le-suc, sub-zero}
+use native.Mathlib.Omega.{arith}
+use lib.Dec.{eqb, leb}
+use lib.ListN.{length, getD, take, set, replicate, length-append}
+use borrow.Author.Tests.{eq-eqb, ne-eqb, leb-true}
+use Rattle.format.specs.Legal.{within}
+use Rattle.format.specs.File.{kindAt, nextAt, onto, chain}
+use Rattle.records.specs.declared.Chain.{Chain}
+use Rattle.records.specs.Padded.{padded}
+use Rattle.records.specs.Chain.{chainFound, Inside}
+use Rattle.records.proofs.Padded.{padded-none, padded-at, getD-padded, take-padded}
+
+-- n record numbers, each of them from 1 to count
+pub record Linked (count n : ℕ) (rs : List ℕ) : Type 0 where
+  pub long : length rs ≡ n
+  pub member : (i : ℕ) → i < n → (1 ≤ getD rs i 0) × (getD rs i 0 ≤ count)
+
+never : {A B : Type 0} {x : B} → _≡_ {A = Option B} none (some x) → A
+never e = absurd (let z : _≡_ {A = ℕ} 0 1 = cc in omega arith)
+
+linked-end : (count : ℕ) (b : Bool) (rs : List ℕ) → cond b (some []) none ≡ some rs → Linked count 0 rs
+linked-end count true [] e = record { long = refl; member = λ i h. absurd (not-suc-le-zero h) }
+linked-end count true (r ∷ rs) e = absurd (let z : _≡_ {A = ℕ} 0 1 = cc in omega arith)
+linked-end count false rs e = never e
+
+linked-more : (count n r : ℕ) (rs : List ℕ) → 1 ≤ r → r ≤ count → Linked count n rs → Linked count (suc n) (r ∷ rs)
+linked-more count n r rs low high l = record { long = ap suc (l .long); member = at }
+  where
+    at : (i : ℕ) → i < suc n → (1 ≤ getD (r ∷ rs) i 0) × (getD (r ∷ rs) i 0 ≤ count)
+    at zero h = (low, high)
+    at (suc i) h = l .member i (le-of-suc-le-suc h)
+
+-- what a chain's step has found
+record Step (b : Bool) (r : ℕ) (o : Option (List ℕ)) (rs : List ℕ) : Type 0 where
+  test : b ≡ true
+  rest : List ℕ
+  found : o ≡ some rest
+  same : r ∷ rest ≡ rs
+
+step : (b : Bool) (r : ℕ) (o : Option (List ℕ)) (rs : List ℕ) → cond b (onto r o) none ≡ some rs → Step b r o rs
+step true r none rs e = never e
+step true r (some qs) rs e = record { test = refl; rest = qs; found = refl; same = cc }
+step false r o rs e = never e
+
+and-both : (a b : Bool) → (a && b) ≡ true → (a ≡ true) × (b ≡ true)
+and-both true b e = (refl, e)
+and-both false b e = absurd (let z : _≡_ {A = ℕ} (cond false 0 1) (cond true 0 1) = ap (λ t. cond t 0 1) e in omega arith)
+
+-- a record that is a link is from 1 to count
+pub link-bound : (file : List ℕ) (count kind r : ℕ) → (within 1 count r && eqb (kindAt file r) kind) ≡ true → (1 ≤ r) × (r ≤ count)
+link-bound file count kind r e =
+    let w = and-both (leb 1 r) (leb r count) (and-both (within 1 count r) (eqb (kindAt file r) kind) e .0) in
+    (leb-true 1 r (w .0), leb-true r count (w .1))
+
+-- a chain that is found has n records, each from 1 to count
+pub linked : (file : List ℕ) (count kind n r : ℕ) (rs : List ℕ) → chain file count kind n r ≡ some rs → Linked count n rs
+unfolding chain
+linked file count kind zero r rs e = linked-end count (eqb r 0) rs e
+linked file count kind (suc n) r rs e =
+    let s = step (within 1 count r && eqb (kindAt file r) kind) r (chain file count kind n (nextAt file r)) rs e in
+    let w = link-bound file count kind r (s .test) in
+    subst (Linked count (suc n)) (s .same)
+    (linked-more count n r (s .rest) (w .0) (w .1) (linked file count kind n (nextAt file r) (s .rest) (s .found)))
+
+pub chain-length : (file : List ℕ) (count kind n r : ℕ) (rs : List ℕ) → chain file count kind n r ≡ some rs → length rs ≡ n
+chain-length file count kind n r rs e = linked file count kind n r rs e .long
+
+pub chain-member : (file : List ℕ) (count kind n r : ℕ) (rs : List ℕ) → chain file count kind n r ≡ some rs → (i : ℕ) → i < n → (1 ≤ getD rs i 0) × (getD rs i 0 ≤ count)
+chain-member file count kind n r rs e = linked file count kind n r rs e .member
+
+-- so its records lie within a file of count records
+pub chain-inside : (file : List ℕ) (count kind n r : ℕ) (rs : List ℕ) → 16 * (1 + count) ≤ length file → chain file count kind n r ≡ some rs → Inside file n (padded 64 0 rs)
+chain-inside file count kind n r rs h e = record { within = at }
+  where
+    at : (i : ℕ) → i < n → 16 * getD (padded 64 0 rs) i 0 + 16 ≤ length file
+    at i g =
+        let l = linked file count kind n r rs e in
+        let k : i < length rs = rw (l .long) g in
+        rw (getD-padded 64 0 0 rs i k) (omega (arith, l .member i g))
+
+pub chain-take : (file : List ℕ) (count kind n r : ℕ) (rs : List ℕ) → chain file count kind n r ≡ some rs → take n (padded 64 0 rs) ≡ rs
+chain-take file count kind n r rs e = take-padded 64 n 0 rs (chain-length file count kind n r rs e)
+
+-- what a chain's answer says of the chain
+pub chain-none : (o : Option (List ℕ)) (c : Chain) → c ≡ chainFound o → c .found ≡ false → o ≡ none
+unfolding chainFound
+chain-none none c e f = refl
+chain-none (some rs) c e f = absurd (let z : _≡_ {A = Bool} true false = sym (ap (λ (d : Chain). d .found) e) ∙ f in let y : _≡_ {A = ℕ} 0 1 = cc in omega arith)
+
+pub record Found (o : Option (List ℕ)) (records : List ℕ) : Type 0 where
+  pub chained : List ℕ
+  pub some-chain : o ≡ some chained
+  pub padded-chain : records ≡ padded 64 0 chained
+
+pub chain-some : (o : Option (List ℕ)) (c : Chain) → c ≡ chainFound o → c .found ≡ true → Found o (c .records)
+unfolding chainFound
+chain-some none c e f = absurd (let z : _≡_ {A = Bool} false true = sym (ap (λ (d : Chain). d .found) e) ∙ f in let y : _≡_ {A = ℕ} 0 1 = cc in omega arith)
+chain-some (some rs) c e f = record { chained = rs; some-chain = refl; padded-chain = ap (λ (d : Chain). d .records) e }
+
+-- so the numbers that are answered lie within the file, and the first n of them are the chain
+module _ (file : List ℕ) (count kind n r : ℕ) (records : List ℕ) (f : Found (chain file count kind n r) records) where
+  pub found-inside : 16 * (1 + count) ≤ length file → Inside file n records
+  found-inside h = rw (f .padded-chain) (chain-inside file count kind n r (f .chained) h (f .some-chain))
+
+  pub found-take : take n records ≡ f .chained
+  found-take = rw (f .padded-chain) (chain-take file count kind n r (f .chained) (f .some-chain))
+
+  pub found-length : length (f .chained) ≡ n
+  found-length = chain-length file count kind n r (f .chained) (f .some-chain)
+
+-- The walk: records put in front of what the rest of the chain gives.
+abbrev pub ahead : List ℕ → Option (List ℕ) → Option (List ℕ)
+ahead [] o = o
+ahead (r ∷ rs) o = onto r (ahead rs o)
+
+ahead-none : (rs : List ℕ) → ahead rs none ≡ none
+ahead-none [] = refl
+ahead-none (r ∷ rs) = ap (onto r) (ahead-none rs)
+
+ahead-end : (rs : List ℕ) → ahead rs (some []) ≡ some rs
+ahead-end [] = refl
+ahead-end (r ∷ rs) = ap (onto r) (ahead-end rs)
+
+ahead-snoc : (rs : List ℕ) (r : ℕ) (o : Option (List ℕ)) → ahead rs (onto r o) ≡ ahead (rs ++ r ∷ []) o
+ahead-snoc [] r o = refl
+ahead-snoc (q ∷ qs) r o = ap (onto q) (ahead-snoc qs r o)
+
+-- what holds after k records, with r the next one
+pub record Walked (file : List ℕ) (count kind n first : ℕ) (records : List ℕ) (r k : ℕ) : Type 0 where
+  pub met : List ℕ
+  pub long : length met ≡ k
+  pub kept : records ≡ padded 64 0 met
+  pub rest : chain file count kind n first ≡ ahead met (chain file count kind (n - k) r)
+
+module _ (file : List ℕ) (count kind n first : ℕ) where
+  pub walked-none : Walked file count kind n first (replicate 64 0) first 0
+  walked-none = record { met = []; long = refl; kept = sym (padded-none 64 0); rest = rw sub-zero }
+
+  module _ (records : List ℕ) (r k : ℕ) (w : Walked file count kind n first records r k) where
+    pub walked-more : k < n → n ≤ 64 → (within 1 count r && eqb (kindAt file r) kind) ≡ true → (s : ℕ) → s ≡ nextAt file r → Walked file count kind n first (set records k r) s (k + 1)
+    unfolding chain
+    walked-more h g t s e =
+        let m : n - k ≡ suc (n - (k + 1)) = omega arith in
+        record {
+          met = w .met ++ r ∷ [];
+          long = length-append (w .met) (r ∷ []) ∙ omega (arith, w .long);
+          kept = rw (w .kept) (padded-at 64 k 0 r (w .met) (w .long) (omega arith));
+          rest = w .rest ∙ rw (m, t, e) (ahead-snoc (w .met) r (chain file count kind (n - (k + 1)) (nextAt file r)));
+        }
+
+    pub walked-broken : k < n → (within 1 count r && eqb (kindAt file r) kind) ≡ false → record { found = false; records = replicate 64 0 } ≡ chainFound (chain file count kind n first)
+    unfolding chain chainFound
+    walked-broken h t =
+        let m : n - k ≡ suc (n - (k + 1)) = omega arith in
+        let e : chain file count kind n first ≡ none = w .rest ∙ rw (m, t) (ahead-none (w .met)) in
+        rw e
+
+    pub walked-late : n ≤ k → (r ≡ 0 → ⊥) → record { found = false; records = replicate 64 0 } ≡ chainFound (chain file count kind n first)
+    unfolding chain chainFound
+    walked-late h t =
+        let m : n - k ≡ 0 = omega arith in
+        let e : chain file count kind n first ≡ none = w .rest ∙ rw (m, ne-eqb r 0 t) (ahead-none (w .met)) in
+        rw e
+
+    pub walked-done : n ≤ k → r ≡ 0 → record { found = true; records = records } ≡ chainFound (chain file count kind n first)
+    unfolding chain chainFound
+    walked-done h t =
+        let m : n - k ≡ 0 = omega arith in
+        let e : chain file count kind n first ≡ some (w .met) = w .rest ∙ rw (m, eq-eqb r 0 t) (ahead-end (w .met)) in
+        rw (e, w .kept)
