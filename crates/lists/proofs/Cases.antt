@@ -1,0 +1,35 @@
+-- Cases on a test, as a sum.
+use mathlib.Core.Path.{_≡_, refl}
+use mathlib.Core.Logic.{_⊎_, inl, inr, ⊎-map}
+use mathlib.Core.Bool.{Bool, true, false, _&&_, and-eq-true-iff, true≢false}
+use Prim.Native.Nat.{ℕ, _<_, _≤_}
+use lib.Dec.{ltb, leb, eqb}
+use borrow.Author.Tests.{ltb-true, ltb-false, leb-true, leb-false, eqb-true, eqb-false}
+
+-- a test passes or fails
+pub bool-cases : (x : Bool) → (x ≡ true) ⊎ (x ≡ false)
+bool-cases true = inl refl
+bool-cases false = inr refl
+
+-- one number is smaller than the other, or not
+pub lt-or-ge : (m n : ℕ) → (m < n) ⊎ (n ≤ m)
+lt-or-ge m n = ⊎-map (ltb-true m n) (ltb-false m n) (bool-cases (ltb m n))
+
+-- two numbers are equal, or not
+pub eq-or-ne : (m n : ℕ) → (m ≡ n) ⊎ (m ≡ n → ⊥)
+eq-or-ne m n = ⊎-map (eqb-true m n) (eqb-false m n) (bool-cases (eqb m n))
+
+-- both parts of a passed conjunction pass
+pub and-left : (a b : Bool) → (a && b) ≡ true → a ≡ true
+and-left a b e = and-eq-true-iff a b .0 e .0
+
+pub and-right : (a b : Bool) → (a && b) ≡ true → b ≡ true
+and-right a b e = and-eq-true-iff a b .0 e .1
+
+-- a conjunction of passed parts passes
+pub and-both : (a b : Bool) → a ≡ true → b ≡ true → (a && b) ≡ true
+and-both a b p q = and-eq-true-iff a b .1 (p, q)
+
+-- no test both passes and fails
+pub true-false : {A : Type 0} (x : Bool) → x ≡ true → x ≡ false → A
+true-false x p q = let z : _≡_ {A = Bool} true false = cc in absurd (true≢false z)

@@ -1,0 +1,4 @@
+pub mod Cases
+pub mod Padded
+pub mod Below
+pub mod Count
