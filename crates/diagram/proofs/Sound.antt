@@ -96,10 +96,14 @@ module _ (letters : ℕ) (t : Table) (i : ℕ) (x : Entry) where
 
   branch-test : Branch letters t i x → branchLegal letters t i x ≡ true
   branch-test h =
-      rw (lt-ltb (x .letter) letters (h .letter-in),
-          lt-ltb (x .low) i (h .low-earlier), lt-ltb (x .letter) (entryAt t (x .low) .letter) (h .low-later),
-          lt-ltb (x .high) i (h .high-earlier), lt-ltb (x .letter) (entryAt t (x .high) .letter) (h .high-later),
-          ne-eqb (x .low) (x .high) (h .differ))
+      rw (
+        lt-ltb (x .letter) letters (h .letter-in),
+        lt-ltb (x .low) i (h .low-earlier),
+        lt-ltb (x .letter) (entryAt t (x .low) .letter) (h .low-later),
+        lt-ltb (x .high) i (h .high-earlier),
+        lt-ltb (x .letter) (entryAt t (x .high) .letter) (h .high-later),
+        ne-eqb (x .low) (x .high) (h .differ),
+      )
 
 -- the test of an entry and its facts
 pub legal-record : (letters : ℕ) (t : Table) (i : ℕ) → entryLegal letters t i ≡ true → Legal letters t i (entryAt t i)
@@ -137,8 +141,8 @@ pub apart-distinct : (t : Table) → ((i j : ℕ) → i < length t → j < lengt
 unfolding distinct
 apart-distinct t h =
     each-below (length t) (λ i. below i (λ j. not (same (entryAt t i) (entryAt t j)))) (λ i hi.
-      each-below i (λ j. not (same (entryAt t i) (entryAt t j))) (λ j hj.
-        ap not (differ-same (entryAt t i) (entryAt t j) (λ q. let z : i ≡ j = h i j hi (omega arith) q in omega arith))))
+    each-below i (λ j. not (same (entryAt t i) (entryAt t j))) (λ j hj.
+    ap not (differ-same (entryAt t i) (entryAt t j) (λ q. let z : i ≡ j = h i j hi (omega arith) q in omega arith))))
 
 -- a table that passes the test keeps to the facts
 pub sound-record : (letters : ℕ) (t : Table) → sound letters t ≡ true → Sound letters t
@@ -167,7 +171,11 @@ sound-record letters t e =
 pub sound-test : (letters : ℕ) (t : Table) → Sound letters t → sound letters t ≡ true
 unfolding sound fixedTerminals
 sound-test letters t s =
-    rw (le-leb 3 (length t) (s .three),
-        equal-same (entryAt t 0) (terminal 0) (s .zeroth), equal-same (entryAt t 1) (terminal 1) (s .first), equal-same (entryAt t 2) (terminal never) (s .second),
-        each-below (length t) (entryLegal letters t) (λ i h. legal-test letters t i (s .legal i h)),
-        apart-distinct t (s .apart))
+    rw (
+      le-leb 3 (length t) (s .three),
+      equal-same (entryAt t 0) (terminal 0) (s .zeroth),
+      equal-same (entryAt t 1) (terminal 1) (s .first),
+      equal-same (entryAt t 2) (terminal never) (s .second),
+      each-below (length t) (entryLegal letters t) (λ i h. legal-test letters t i (s .legal i h)),
+      apart-distinct t (s .apart),
+    )
