@@ -1,3 +1,6 @@
 pub mod Examples
 pub mod Sound
 pub mod Add
+pub mod Number
+pub mod Store
+pub mod Canonical

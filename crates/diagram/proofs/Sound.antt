@@ -66,6 +66,14 @@ pub record Sound (letters : ℕ) (t : Table) : Type 0 where
   pub legal : (i : ℕ) → i < length t → Legal letters t i (entryAt t i)
   pub apart : (i j : ℕ) → i < length t → j < length t → entryAt t i ≡ entryAt t j → i ≡ j
 
+-- an entry whose letter is none of the K is a terminal
+pub past-terminal : {letters : ℕ} (t : Table) (e : ℕ) → Sound letters t → e < length t → letters ≤ entryAt t e .letter → entryAt t e ≡ terminal (entryAt t e .low)
+past-terminal {letters} t e s h le =
+    ⊎-elim
+    (λ (q : entryAt t e .letter ≡ terminalLetter). entry-path (entryAt t e) (terminal (entryAt t e .low)) q refl (s .legal e h .leaf q))
+    (λ (n : entryAt t e .letter ≡ terminalLetter → ⊥). let b : Branch letters t e (entryAt t e) = s .legal e h .node n in absurd (omega arith))
+    (eq-or-ne (entryAt t e .letter) terminalLetter)
+
 -- the test of a branch and its facts
 abbrev branchLegal : ℕ → Table → ℕ → Entry → Bool
 branchLegal letters t i x =
