@@ -4,3 +4,4 @@ pub mod Add
 pub mod Number
 pub mod Store
 pub mod Canonical
+pub mod Columns

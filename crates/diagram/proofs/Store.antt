@@ -56,79 +56,78 @@ pub record IsStored (letters n k : ℕ) (f : ℕ → ℕ) (t : Table) (s : Store
   pub from : k ≤ entryAt (s .table) (s .entry) .letter
   pub number : (p : ℕ) → p < 2 ^ n → numberFrom n k (s .table) (s .entry) p ≡ f p
 
-module _ {letters : ℕ} (few : letters ≤ mostLetters) where
-  -- an entry of a sound table stores its own numbers
-  pub present-stored : (n k : ℕ) (f : ℕ → ℕ) (t : Table) (e : ℕ) → Sound letters t → e < length t → k ≤ entryAt t e .letter
-      → ((p : ℕ) → p < 2 ^ n → numberFrom n k t e p ≡ f p) → IsStored letters n k f t (stored t e)
-  present-stored n k f t e s h le same = record { sound = s; extends = extends-refl t; within = h; from = le; number = same }
+-- an entry of a sound table stores its own numbers
+pub present-stored : {letters : ℕ} (n k : ℕ) (f : ℕ → ℕ) (t : Table) (e : ℕ) → Sound letters t → e < length t → k ≤ entryAt t e .letter
+    → ((p : ℕ) → p < 2 ^ n → numberFrom n k t e p ≡ f p) → IsStored letters n k f t (stored t e)
+present-stored n k f t e s h le same = record { sound = s; extends = extends-refl t; within = h; from = le; number = same }
 
-  -- a number is stored by its terminal
-  pub terminal-stored : (k : ℕ) (f : ℕ → ℕ) (t : Table) → Sound letters t → k ≤ letters → IsStored letters 0 k f t (add (terminal (f 0)) t)
-  terminal-stored k f t s le =
-      let u : Stored = add (terminal (f 0)) t in
-      let a : Added (terminal (f 0)) t u = added (terminal (f 0)) t in
-      record {
-        sound = add-sound (terminal (f 0)) t s (terminal-legal letters t (length t) (f 0));
-        extends = a .extends;
-        within = a .within;
-        from = rw (a .holds) (omega arith);
-        number = λ p h.
-            let z : p ≡ 0 = omega arith in
-            number-end k (u .table) (u .entry) p ∙ ap (λ (y : Entry). y .low) (a .holds) ∙ ap f (sym z);
-      }
+-- a number is stored by its terminal
+pub terminal-stored : {letters : ℕ} (k : ℕ) (f : ℕ → ℕ) (t : Table) → letters ≤ mostLetters → Sound letters t → k ≤ letters → IsStored letters 0 k f t (add (terminal (f 0)) t)
+terminal-stored {letters} k f t few s le =
+    let u : Stored = add (terminal (f 0)) t in
+    let a : Added (terminal (f 0)) t u = added (terminal (f 0)) t in
+    record {
+      sound = add-sound (terminal (f 0)) t s (terminal-legal letters t (length t) (f 0));
+      extends = a .extends;
+      within = a .within;
+      from = rw (a .holds) (omega arith);
+      number = λ p h.
+          let z : p ≡ 0 = omega arith in
+          number-end k (u .table) (u .entry) p ∙ ap (λ (y : Entry). y .low) (a .holds) ∙ ap f (sym z);
+    }
 
-  -- two stored halves, joined
-  pub join-stored : (n k : ℕ) (f : ℕ → ℕ) (t : Table) (a b : Stored) → suc n + k ≤ letters
-      → IsStored letters n (suc k) (λ q. f (2 * q)) t a → IsStored letters n (suc k) (λ q. f (2 * q + 1)) (a .table) b
-      → IsStored letters (suc n) k f t (join k a b)
-  join-stored n k f t a b le sa sb =
-      let u : Table = b .table in
-      let i : ℕ = a .entry in
-      let j : ℕ = b .entry in
-      let hi : i < length u = omega (arith, sa .within, sb .extends .longer) in
-      let ki : k < entryAt u i .letter = rw (sb .extends .kept i (sa .within)) (sa .from) in
-      let low : (q : ℕ) → q < 2 ^ n → numberFrom n (suc k) u i q ≡ f (2 * q) =
-      λ q h. number-extends n (suc k) i q (sa .sound) (sb .extends) (omega arith) (sa .within) ∙ sa .number q h in
-      ⊎-elim
-      (λ (e : i ≡ j). rw (join-same k a b e) record {
-        sound = sb .sound;
-        extends = extends-trans (sa .extends) (sb .extends);
-        within = sb .within;
-        from = omega (arith, sb .from);
-        number = number-halves n k u j f
-            (λ q h. ap (λ (x : ℕ). numberFrom n (suc k) u x q) (part-later u k j 0 (sb .from) ∙ sym e) ∙ low q h)
-            (λ q h. ap (λ (x : ℕ). numberFrom n (suc k) u x q) (part-later u k j 1 (sb .from)) ∙ sb .number q h);
-      })
-      (λ (ne : i ≡ j → ⊥).
-      let x : Entry = branch k i j in
-      let c : Stored = add x u in
-      let d : Added x u c = added x u in
-      let letter : entryAt (c .table) (c .entry) .letter ≡ k = ap (λ (y : Entry). y .letter) (d .holds) in
-      rw (join-differ k a b ne) record {
-        sound = add-sound x u (sb .sound) (branch-legal letters u (length u) k i j few (omega arith) hi (sb .within) ki (sb .from) ne);
-        extends = extends-trans (sa .extends) (extends-trans (sb .extends) (d .extends));
-        within = d .within;
-        from = omega arith;
-        number = number-halves n k (c .table) (c .entry) f
-            (λ q h.
-            ap (λ (y : ℕ). numberFrom n (suc k) (c .table) y q) (part-low (c .table) k (c .entry) letter ∙ ap (λ (y : Entry). y .low) (d .holds))
-            ∙ number-extends n (suc k) i q (sb .sound) (d .extends) (omega arith) hi
-            ∙ low q h)
-            (λ q h.
-            ap (λ (y : ℕ). numberFrom n (suc k) (c .table) y q) (part-high (c .table) k (c .entry) letter ∙ ap (λ (y : Entry). y .high) (d .holds))
-            ∙ number-extends n (suc k) j q (sb .sound) (d .extends) (omega arith) (sb .within)
-            ∙ sb .number q h);
-      })
-      (eq-or-ne i j)
+-- two stored halves, joined
+pub join-stored : {letters : ℕ} (n k : ℕ) (f : ℕ → ℕ) (t : Table) (a b : Stored) → letters ≤ mostLetters → suc n + k ≤ letters
+    → IsStored letters n (suc k) (λ q. f (2 * q)) t a → IsStored letters n (suc k) (λ q. f (2 * q + 1)) (a .table) b
+    → IsStored letters (suc n) k f t (join k a b)
+join-stored {letters} n k f t a b few le sa sb =
+    let u : Table = b .table in
+    let i : ℕ = a .entry in
+    let j : ℕ = b .entry in
+    let hi : i < length u = omega (arith, sa .within, sb .extends .longer) in
+    let ki : k < entryAt u i .letter = rw (sb .extends .kept i (sa .within)) (sa .from) in
+    let low : (q : ℕ) → q < 2 ^ n → numberFrom n (suc k) u i q ≡ f (2 * q) =
+    λ q h. number-extends n (suc k) i q (sa .sound) (sb .extends) (omega arith) (sa .within) ∙ sa .number q h in
+    ⊎-elim
+    (λ (e : i ≡ j). rw (join-same k a b e) record {
+      sound = sb .sound;
+      extends = extends-trans (sa .extends) (sb .extends);
+      within = sb .within;
+      from = omega (arith, sb .from);
+      number = number-halves n k u j f
+          (λ q h. ap (λ (x : ℕ). numberFrom n (suc k) u x q) (part-later u k j 0 (sb .from) ∙ sym e) ∙ low q h)
+          (λ q h. ap (λ (x : ℕ). numberFrom n (suc k) u x q) (part-later u k j 1 (sb .from)) ∙ sb .number q h);
+    })
+    (λ (ne : i ≡ j → ⊥).
+    let x : Entry = branch k i j in
+    let c : Stored = add x u in
+    let d : Added x u c = added x u in
+    let letter : entryAt (c .table) (c .entry) .letter ≡ k = ap (λ (y : Entry). y .letter) (d .holds) in
+    rw (join-differ k a b ne) record {
+      sound = add-sound x u (sb .sound) (branch-legal letters u (length u) k i j few (omega arith) hi (sb .within) ki (sb .from) ne);
+      extends = extends-trans (sa .extends) (extends-trans (sb .extends) (d .extends));
+      within = d .within;
+      from = omega arith;
+      number = number-halves n k (c .table) (c .entry) f
+          (λ q h.
+          ap (λ (y : ℕ). numberFrom n (suc k) (c .table) y q) (part-low (c .table) k (c .entry) letter ∙ ap (λ (y : Entry). y .low) (d .holds))
+          ∙ number-extends n (suc k) i q (sb .sound) (d .extends) (omega arith) hi
+          ∙ low q h)
+          (λ q h.
+          ap (λ (y : ℕ). numberFrom n (suc k) (c .table) y q) (part-high (c .table) k (c .entry) letter ∙ ap (λ (y : Entry). y .high) (d .holds))
+          ∙ number-extends n (suc k) j q (sb .sound) (d .extends) (omega arith) (sb .within)
+          ∙ sb .number q h);
+    })
+    (eq-or-ne i j)
 
-  -- storing stores
-  pub store-stored : (n k : ℕ) (f : ℕ → ℕ) (t : Table) → Sound letters t → n + k ≤ letters → IsStored letters n k f t (store n k f t)
-  store-stored zero k f t s le = rw (store-zero k f t) (terminal-stored k f t s (omega arith))
-  store-stored (suc n) k f t s le =
-      let a : Stored = store n (suc k) (λ q. f (2 * q)) t in
-      let sa : IsStored letters n (suc k) (λ q. f (2 * q)) t a = store-stored n (suc k) (λ q. f (2 * q)) t s (omega arith) in
-      rw (store-suc n k f t)
-      (join-stored n k f t a (store n (suc k) (λ q. f (2 * q + 1)) (a .table)) le sa (store-stored n (suc k) (λ q. f (2 * q + 1)) (a .table) (sa .sound) (omega arith)))
+-- storing stores
+pub store-stored : {letters : ℕ} (n k : ℕ) (f : ℕ → ℕ) (t : Table) → letters ≤ mostLetters → Sound letters t → n + k ≤ letters → IsStored letters n k f t (store n k f t)
+store-stored zero k f t few s le = rw (store-zero k f t) (terminal-stored k f t few s (omega arith))
+store-stored {letters} (suc n) k f t few s le =
+    let a : Stored = store n (suc k) (λ q. f (2 * q)) t in
+    let sa : IsStored letters n (suc k) (λ q. f (2 * q)) t a = store-stored n (suc k) (λ q. f (2 * q)) t few s (omega arith) in
+    rw (store-suc n k f t)
+    (join-stored n k f t a (store n (suc k) (λ q. f (2 * q + 1)) (a .table)) few le sa (store-stored n (suc k) (λ q. f (2 * q + 1)) (a .table) few (sa .sound) (omega arith)))
 
 -- functions that agree are stored alike
 pub store-ext : (n k : ℕ) (f g : ℕ → ℕ) (t : Table) → ((p : ℕ) → p < 2 ^ n → f p ≡ g p) → store n k f t ≡ store n k g t
@@ -188,7 +187,7 @@ store-constant (suc n) k v t =
 pub store-again : {letters : ℕ} (n k : ℕ) (f : ℕ → ℕ) (t : Table) → letters ≤ mostLetters → Sound letters t → n + k ≡ letters
     → store n k f (store n k f t .table) ≡ store n k f t
 store-again n k f t few s sum =
-    let a : IsStored _ n k f t (store n k f t) = store-stored few n k f t s (omega arith) in
+    let a : IsStored _ n k f t (store n k f t) = store-stored n k f t few s (omega arith) in
     store-present n k f (store n k f t .table) (store n k f t .entry) few (a .sound) sum (a .within) (a .from) (a .number)
 
 -- a function that ignores a letter is stored from the next letter on
