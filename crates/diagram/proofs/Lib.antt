@@ -5,3 +5,7 @@ pub mod Number
 pub mod Store
 pub mod Canonical
 pub mod Columns
+pub mod Pattern
+pub mod Answer
+pub mod Calls
+pub mod Count
