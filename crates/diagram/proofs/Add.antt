@@ -1,19 +1,17 @@
 -- Extension of a table, and adding an entry.
-use mathlib.Core.Path.{_≡_, refl, sym, _∙_, ap, subst}
+use mathlib.Core.Path.{_≡_, refl, sym, _∙_, ap}
 use mathlib.Core.Logic.{_⊎_, inl, inr, ⊎-elim}
-use mathlib.Core.List.{List, [], _∷_, _++_}
-use mathlib.Core.Bool.{Bool, true, false, cond}
-use Prim.Native.Nat.{ℕ, zero, suc, _+_, _<_, _≤_}
-use native.Mathlib.Nat.{zero-add}
+use mathlib.Core.List.{[], _∷_, _++_}
+use mathlib.Core.Bool.{true, false}
+use Prim.Native.Nat.{ℕ, zero, suc, _<_, _≤_}
 use native.Mathlib.Omega.{arith}
-use lib.ListN.{length, getD, take, drop, length-append, length-take, take-append-drop, List·getD-append}
+use lib.ListN.{length, take, drop, length-append, take-append-drop, List·getD-append}
 use lib.Seq.{getD-append-seam, getD-take, ext-getD, length-take-le}
-use lib.Dec.{ltb}
 use borrow.Author.Tests.{lt-ltb, le-ltb}
-use Rattle.lists.proofs.Cases.{bool-cases, lt-or-ge, eq-or-ne}
+use Rattle.lists.proofs.Cases.{bool-cases, lt-or-ge}
 use Rattle.diagram.specs.Table.{Entry, Table, blank, entryAt, same}
 use Rattle.diagram.specs.Store.{Stored, stored, find, add}
-use Rattle.diagram.proofs.Sound.{Branch, Legal, Sound, same-equal, same-differ, equal-same, differ-same}
+use Rattle.diagram.proofs.Sound.{Branch, Legal, Sound, same-equal, equal-same}
 
 -- the second table begins with the first
 pub record Extends (t u : Table) : Type 0 where

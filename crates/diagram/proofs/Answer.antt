@@ -1,5 +1,5 @@
 -- What an answered call on a table says of its checks.
-use mathlib.Core.Path.{_≡_, refl, sym, _∙_, ap}
+use mathlib.Core.Path.{_≡_, refl, sym, _∙_}
 use mathlib.Core.Bool.{Bool, true, false, _&&_}
 use Prim.Native.Nat.{ℕ, _<_, _≤_}
 use native.Mathlib.Omega.{arith}
@@ -8,17 +8,16 @@ use lib.Dec.{leb}
 use borrow.Author.Tests.{leb-true, le-leb}
 use Rattle.refusal.specs.declared.Refusal.{Refusal}
 use Rattle.refusal.specs.declared.Refusal.the-variants.{Buffer, Unsound, Question, Full}
-use Rattle.refusal.specs.Answer.{Answer, refused, answered, check}
+use Rattle.refusal.specs.Answer.{Answer, answered, check}
 use Rattle.lists.proofs.Cases.{and-left, and-right}
 use Rattle.diagram.specs.Pattern.{mostLetters, patterns}
 use Rattle.diagram.specs.Table.{Table, numberAt}
 use Rattle.diagram.specs.Store.{Stored, stored, store}
-use Rattle.diagram.specs.Call.{Columns, lengthsLegal, columnsSound, tableOf, columnsOf, onTable, storeIn, columnsAfter, usedAfter}
-use Rattle.diagram.proofs.Sound.{Sound}
+use Rattle.diagram.specs.Call.{Columns, lengthsLegal, columnsSound, tableOf, onTable, storeIn, columnsAfter, usedAfter}
 use Rattle.diagram.proofs.Add.{Extends}
 use Rattle.diagram.proofs.Number.{numberAt-extends}
 use Rattle.diagram.proofs.Store.{IsStored, store-stored, store-present}
-use Rattle.diagram.proofs.Columns.{Lengths, ColumnsSound, lengths-record, lengths-test, columns-record, columns-test, table-length, table-columns, columns-table, columns-sound, columns-length, columns-lengths}
+use Rattle.diagram.proofs.Columns.{Lengths, ColumnsSound, lengths-record, lengths-test, columns-record, columns-test, table-length, table-columns, columns-table, columns-sound, columns-lengths}
 
 -- an answered check passed
 pub check-answered : {A : Type 0} (x : Bool) (why : Refusal) (next : Answer A) (a : A) → check x why next ≡ answered a → (x ≡ true) × (next ≡ answered a)

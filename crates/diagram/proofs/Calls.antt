@@ -1,18 +1,18 @@
 -- What the calls on a table answer.
-use mathlib.Core.Path.{_≡_, refl, sym, _∙_, ap}
-use mathlib.Core.Bool.{Bool, true, false, _&&_}
-use Prim.Native.Nat.{ℕ, zero, suc, _<_, _≤_}
+use mathlib.Core.Path.{_≡_, refl, sym, _∙_}
+use mathlib.Core.Bool.{Bool, true, _&&_}
+use Prim.Native.Nat.{ℕ, _<_, _≤_}
 use native.Mathlib.Omega.{arith}
 use lib.ListN.{length}
-use lib.Dec.{leb, ltb, eqb}
+use lib.Dec.{leb, ltb}
 use borrow.Author.Tests.{ltb-true, leb-true, lt-ltb, le-leb}
 use Rattle.refusal.specs.declared.Refusal.the-variants.{Buffer}
-use Rattle.refusal.specs.Answer.{Answer, answered, check}
+use Rattle.refusal.specs.Answer.{answered}
 use Rattle.lists.specs.Tests.{below}
-use Rattle.lists.proofs.Cases.{and-left, and-right, and-both}
+use Rattle.lists.proofs.Cases.{and-left, and-right}
 use Rattle.lists.proofs.Below.{below-each, each-below}
 use Rattle.diagram.specs.declared.Operation.{Operation}
-use Rattle.diagram.specs.Pattern.{mostLetters, patterns}
+use Rattle.diagram.specs.Pattern.{patterns}
 use Rattle.diagram.specs.Table.{Table, numberAt}
 use Rattle.diagram.specs.Sound.{sound, entryLegal, distinct, fixedTerminals}
 use Rattle.diagram.specs.Store.{Stored, stored, store, fresh}

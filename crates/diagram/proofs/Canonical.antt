@@ -7,7 +7,7 @@ use native.Mathlib.Omega.{arith}
 use lib.ListN.{length}
 use Rattle.diagram.specs.Pattern.{mostLetters, patterns}
 use Rattle.diagram.specs.Table.{Table, entryAt, numberFrom, numberAt}
-use Rattle.diagram.specs.Store.{Stored, stored, store}
+use Rattle.diagram.specs.Store.{Stored}
 use Rattle.diagram.proofs.Sound.{Sound}
 use Rattle.diagram.proofs.Store.{store-present}
 

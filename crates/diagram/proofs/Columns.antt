@@ -1,23 +1,21 @@
 -- Between a table and the columns that hold it.
 use mathlib.Core.Path.{_≡_, refl, sym, _∙_, ap}
-use mathlib.Core.Logic.{⊎-elim}
-use mathlib.Core.Bool.{Bool, true, false, _&&_}
+use mathlib.Core.Bool.{Bool, true, _&&_}
 use mathlib.Core.List.{List, [], _∷_, _++_, map}
 use Prim.Native.Nat.{ℕ, zero, suc, _+_, _-_, _<_, _≤_}
-use native.Mathlib.Nat.{suc-inj}
 use native.Mathlib.Omega.{arith}
-use lib.ListN.{length, getD, take, drop, set, replicate, length-map, length-drop, length-replicate, getD-replicate, List·getD-map, List·getD-eq-default}
+use lib.ListN.{length, getD, take, drop, set, replicate, length-map, length-drop, length-replicate, List·getD-map, List·getD-eq-default}
 use lib.Seq.{ext-getD, getD-take, getD-drop, length-take-le}
 use lib.Dec.{leb, eqb}
 use borrow.Author.Tests.{leb-true, eqb-true, le-leb, eq-eqb}
 use Rattle.lists.specs.Padded.{padded}
-use Rattle.lists.proofs.Cases.{and-left, and-right, and-both, lt-or-ge}
-use Rattle.lists.proofs.Padded.{padded-length, padded-take, padded-drop, padded-read, padded-set, padded-of-take, replicate-read}
+use Rattle.lists.proofs.Cases.{and-left, and-right, and-both}
+use Rattle.lists.proofs.Padded.{padded-length, padded-take, padded-read, padded-set, padded-of-take, replicate-read}
 use Rattle.lists.proofs.Map.{map-append, map-padded}
 use Rattle.diagram.specs.Table.{Entry, Table, blank, entryAt, same}
 use Rattle.diagram.specs.Sound.{sound}
 use Rattle.diagram.specs.Call.{Columns, leastEntries, mostEntries, lengthsLegal, entries, rows, tableOf, columnsOf, allBlank, columnsSound}
-use Rattle.diagram.proofs.Sound.{Sound, entry-path, same-refl, same-equal, equal-same, sound-record, sound-test}
+use Rattle.diagram.proofs.Sound.{Sound, entry-path, same-equal, equal-same, sound-record, sound-test}
 
 -- the numbers of an entry
 abbrev pub letterOf : Entry → ℕ

@@ -9,3 +9,4 @@ pub mod Pattern
 pub mod Answer
 pub mod Calls
 pub mod Count
+pub mod Sum

@@ -1,7 +1,7 @@
 -- The parts of an entry and its number.
 use mathlib.Core.Path.{_≡_, refl, sym, _∙_, ap, subst}
 use mathlib.Core.Logic.{⊎-elim}
-use mathlib.Core.Bool.{Bool, true, false, cond}
+use mathlib.Core.Bool.{true, false, cond}
 use Prim.Native.Nat.{ℕ, zero, suc, _+_, _-_, _*_, _/_, _%_, _^_, _<_, _≤_}
 use native.Mathlib.Nat.{div-one, div-div-eq-div-mul, pow-suc, pow-succ', zero-add}
 use native.Mathlib.Omega.{arith}
@@ -10,8 +10,8 @@ use lib.Dec.{eqb}
 use borrow.Author.Tests.{eq-eqb, ne-eqb}
 use Rattle.lists.proofs.Cases.{bool-cases, lt-or-ge, eq-or-ne}
 use Rattle.diagram.specs.Pattern.{mostLetters, letterAt}
-use Rattle.diagram.specs.Table.{Entry, Table, never, terminalLetter, terminal, entryAt, partOf, numberFrom, numberAt}
-use Rattle.diagram.proofs.Sound.{Branch, Legal, Sound}
+use Rattle.diagram.specs.Table.{Entry, Table, never, terminalLetter, entryAt, partOf, numberFrom, numberAt}
+use Rattle.diagram.proofs.Sound.{Branch, Sound}
 use Rattle.diagram.proofs.Add.{Extends}
 
 module _ (t : Table) (k e : ℕ) where

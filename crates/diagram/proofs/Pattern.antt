@@ -1,6 +1,6 @@
 -- The letters of a pattern, and a pattern with one letter set.
 use mathlib.Core.Path.{_≡_, refl, sym, _∙_, ap}
-use Prim.Native.Nat.{ℕ, zero, suc, _+_, _-_, _*_, _/_, _%_, _^_, _<_, _≤_}
+use Prim.Native.Nat.{ℕ, zero, suc, _+_, _*_, _/_, _%_, _^_, _<_, _≤_}
 use native.Mathlib.Nat.{div-one, div-div-eq-div-mul, pow-succ', mod-le, mul-le-mul-right, div-mul-le-self}
 use native.Mathlib.Omega.{arith}
 use Rattle.diagram.specs.Pattern.{patterns, letterAt, withLetter}
