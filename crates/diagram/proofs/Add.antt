@@ -133,6 +133,7 @@ appended x t = record {
   longest = simp length-append (omega arith);
 }
 
+-- adding gives that
 pub added : (x : Entry) (t : Table) → Added x t (add x t)
 added x t =
     ⊎-elim

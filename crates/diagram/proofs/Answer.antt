@@ -142,12 +142,13 @@ module _ (letters : ℕ) (c : Columns) (used : ℕ) (question : Table → Bool) 
       → storing letters c used question f ≡ answered (stored (tableOf c used) e)
   storing-there h e l numbers = on-table-next letters c used question (λ t. storeIn letters c (f t) t) h ∙ store-there h (f (tableOf c used)) e l numbers
 
--- an answer with an entry of the table leaves columns and used count
+-- an answer with an entry of the table leaves the columns
 pub columns-kept : {letters : ℕ} {c : Columns} {used : ℕ} {question : Table → Bool} (e : ℕ) → OnTable letters c used question
     → columnsAfter c (answered (stored (tableOf c used) e)) ≡ c
 unfolding columnsAfter
 columns-kept {c = c} {used = used} e h = columns-table c used (h .lengths) (h .sound)
 
+-- and the used count
 pub used-kept : {letters : ℕ} {c : Columns} {used : ℕ} {question : Table → Bool} (e : ℕ) → OnTable letters c used question
     → usedAfter used (answered (stored (tableOf c used) e)) ≡ used
 used-kept {c = c} {used = used} e h = table-length c (h .lengths .low-long) (h .lengths .high-long) used (h .sound .fits)

@@ -22,11 +22,12 @@ use Rattle.diagram.proofs.Sound.{Sound, sound-record}
 use Rattle.diagram.proofs.Columns.{Lengths, ColumnsSound, lengths-record, columns-sound}
 use Rattle.diagram.proofs.Answer.{OnTable, StoredIn, check-answered, answered-same, on-table-answered, on-table-next, storing, storing-checks, storing-stored, storing-room, storing-there}
 
--- a function of two values reaches no other, and the other way round
+-- a function of two values takes no number past 1
 pub two-valued-each : (letters : ℕ) (t : Table) (e : ℕ) → twoValued letters t e ≡ true → (p : ℕ) → p < patterns letters → numberAt letters t e p ≤ 1
 unfolding twoValued
 two-valued-each letters t e h p l = leb-true (numberAt letters t e p) 1 (below-each (patterns letters) (λ q. leb (numberAt letters t e q) 1) h p l)
 
+-- numbers at most 1 are two values
 pub each-two-valued : (letters : ℕ) (t : Table) (e : ℕ) → ((p : ℕ) → p < patterns letters → numberAt letters t e p ≤ 1) → twoValued letters t e ≡ true
 unfolding twoValued
 each-two-valued letters t e h = each-below (patterns letters) (λ q. leb (numberAt letters t e q) 1) (λ p l. le-leb (numberAt letters t e p) 1 (h p l))
@@ -49,29 +50,35 @@ module _ (c : Columns) (s : Stored) (e : freshCall c ≡ answered s) where
   unfolding columnsAfter
   fresh-columns letters = rw (fresh-answer .1) (columns-sound (length (c .letter)) fresh (fresh-sound letters) (omega (arith, fresh-answer .0 .least)))
 
--- the questions of the calls
+-- what smaller and sum ask
 abbrev pub applyQuestion : ℕ → ℕ → ℕ → Table → Bool
 applyQuestion used a b t = ltb a used && ltb b used
 
+-- choose's
 abbrev pub chooseQuestion : ℕ → ℕ → ℕ → ℕ → ℕ → Table → Bool
 chooseQuestion letters used selector a b t = ltb selector used && ltb a used && ltb b used && twoValued letters t selector
 
+-- fix's
 abbrev pub fixQuestion : ℕ → ℕ → ℕ → ℕ → ℕ → Table → Bool
 fixQuestion letters used e k bit t = ltb e used && ltb k letters && leb bit 1
 
+-- the number's
 abbrev pub numberQuestion : ℕ → ℕ → ℕ → ℕ → Table → Bool
 numberQuestion letters used e p t = ltb e used && ltb p (patterns letters)
 
+-- the count's
 abbrev pub countQuestion : ℕ → ℕ → ℕ → Table → Bool
 countQuestion letters used e t = ltb e used && twoValued letters t e
 
--- what the questions ask
+-- smaller and sum ask for two entries of the table
 pub apply-asked : (used a b : ℕ) (t : Table) → applyQuestion used a b t ≡ true → (a < used) × (b < used)
 apply-asked used a b t e = (ltb-true a used (and-left (ltb a used) (ltb b used) e), ltb-true b used (and-right (ltb a used) (ltb b used) e))
 
+-- two entries of the table may be asked
 pub apply-asks : (used a b : ℕ) (t : Table) → a < used → b < used → applyQuestion used a b t ≡ true
 apply-asks used a b t ha hb = rw (lt-ltb a used ha, lt-ltb b used hb)
 
+-- choose asks for a selector of two values
 pub choose-asked : (letters used selector a b : ℕ) (t : Table) → chooseQuestion letters used selector a b t ≡ true
     → (selector < used) × (a < used) × (b < used) × ((p : ℕ) → p < patterns letters → numberAt letters t selector p ≤ 1)
 choose-asked letters used selector a b t e =
@@ -86,10 +93,12 @@ choose-asked letters used selector a b t e =
       two-valued-each letters t selector (and-right (x && y && z) (twoValued letters t selector) e),
     )
 
+-- such entries may be asked
 pub choose-asks : (letters used selector a b : ℕ) (t : Table) → selector < used → a < used → b < used → ((p : ℕ) → p < patterns letters → numberAt letters t selector p ≤ 1)
     → chooseQuestion letters used selector a b t ≡ true
 choose-asks letters used selector a b t hs ha hb two = rw (lt-ltb selector used hs, lt-ltb a used ha, lt-ltb b used hb, each-two-valued letters t selector two)
 
+-- fix asks for a letter and a bit
 pub fix-asked : (letters used i k bit : ℕ) (t : Table) → fixQuestion letters used i k bit t ≡ true → (i < used) × (k < letters) × (bit ≤ 1)
 fix-asked letters used i k bit t e =
     let x : Bool = ltb i used in
@@ -97,20 +106,25 @@ fix-asked letters used i k bit t e =
     let xy : (x && y) ≡ true = and-left (x && y) (leb bit 1) e in
     (ltb-true i used (and-left x y xy), ltb-true k letters (and-right x y xy), leb-true bit 1 (and-right (x && y) (leb bit 1) e))
 
+-- such a letter and bit may be asked
 pub fix-asks : (letters used i k bit : ℕ) (t : Table) → i < used → k < letters → bit ≤ 1 → fixQuestion letters used i k bit t ≡ true
 fix-asks letters used i k bit t hi hk hb = rw (lt-ltb i used hi, lt-ltb k letters hk, le-leb bit 1 hb)
 
+-- the number asks for a pattern
 pub number-asked : (letters used e p : ℕ) (t : Table) → numberQuestion letters used e p t ≡ true → (e < used) × (p < patterns letters)
 number-asked letters used e p t q =
     (ltb-true e used (and-left (ltb e used) (ltb p (patterns letters)) q), ltb-true p (patterns letters) (and-right (ltb e used) (ltb p (patterns letters)) q))
 
+-- such a pattern may be asked
 pub number-asks : (letters used e p : ℕ) (t : Table) → e < used → p < patterns letters → numberQuestion letters used e p t ≡ true
 number-asks letters used e p t he hp = rw (lt-ltb e used he, lt-ltb p (patterns letters) hp)
 
+-- the count asks for two values
 pub count-asked : (letters used e : ℕ) (t : Table) → countQuestion letters used e t ≡ true → (e < used) × ((p : ℕ) → p < patterns letters → numberAt letters t e p ≤ 1)
 count-asked letters used e t q =
     (ltb-true e used (and-left (ltb e used) (twoValued letters t e) q), two-valued-each letters t e (and-right (ltb e used) (twoValued letters t e) q))
 
+-- such an entry may be asked
 pub count-asks : (letters used e : ℕ) (t : Table) → e < used → ((p : ℕ) → p < patterns letters → numberAt letters t e p ≤ 1) → countQuestion letters used e t ≡ true
 count-asks letters used e t he two = rw (lt-ltb e used he, each-two-valued letters t e two)
 

@@ -17,13 +17,15 @@ use Rattle.diagram.specs.Sound.{sound}
 use Rattle.diagram.specs.Call.{Columns, leastEntries, mostEntries, lengthsLegal, entries, rows, tableOf, columnsOf, allBlank, columnsSound}
 use Rattle.diagram.proofs.Sound.{Sound, entry-path, same-equal, equal-same, sound-record, sound-test}
 
--- the numbers of an entry
+-- the letter of an entry
 abbrev pub letterOf : Entry → ℕ
 letterOf x = x .letter
 
+-- its low number
 abbrev pub lowOf : Entry → ℕ
 lowOf x = x .low
 
+-- its high number
 abbrev pub highOf : Entry → ℕ
 highOf x = x .high
 
@@ -34,6 +36,7 @@ pub record Lengths (c : Columns) : Type 0 where
   pub low-long : length (c .low) ≡ length (c .letter)
   pub high-long : length (c .high) ≡ length (c .letter)
 
+-- lengths that pass the test
 pub lengths-record : (c : Columns) → lengthsLegal c ≡ true → Lengths c
 lengths-record c e =
     let n : ℕ = length (c .letter) in
@@ -50,6 +53,7 @@ lengths-record c e =
       high-long = eqb-true (length (c .high)) n (and-right (a && b && d) g e);
     }
 
+-- legal lengths pass it
 pub lengths-test : (c : Columns) → Lengths c → lengthsLegal c ≡ true
 lengths-test c h =
     let n : ℕ = length (c .letter) in
@@ -76,20 +80,23 @@ entries-at (l ∷ ls) (w ∷ ws) (h ∷ hs) zero p q = refl
 entries-at (l ∷ ls) (w ∷ ws) (h ∷ hs) (suc i) p q = entries-at ls ws hs i (omega arith) (omega arith)
 
 module _ (c : Columns) (low-long : length (c .low) ≡ length (c .letter)) (high-long : length (c .high) ≡ length (c .letter)) where
-  -- the rows of equally long columns
+  -- equally long columns have as many rows
   pub rows-length : length (rows c) ≡ length (c .letter)
   rows-length = entries-length (c .letter) (c .low) (c .high) low-long high-long
 
+  -- a row is made of the numbers at its place
   pub rows-at : (i : ℕ) → entryAt (rows c) i ≡ record { letter = getD (c .letter) i 0; low = getD (c .low) i 0; high = getD (c .high) i 0 }
   rows-at i = entries-at (c .letter) (c .low) (c .high) i low-long high-long
 
-  -- the columns of the rows
+  -- the letters of the rows are the letter column
   pub rows-letter : map letterOf (rows c) ≡ c .letter
   rows-letter = ext-getD 0 (map letterOf (rows c)) (c .letter) (length-map (rows c) letterOf ∙ rows-length) (λ i h. List·getD-map letterOf (rows c) i blank ∙ ap letterOf (rows-at i))
 
+  -- the low column
   pub rows-low : map lowOf (rows c) ≡ c .low
   rows-low = ext-getD 0 (map lowOf (rows c)) (c .low) (length-map (rows c) lowOf ∙ rows-length ∙ sym low-long) (λ i h. List·getD-map lowOf (rows c) i blank ∙ ap lowOf (rows-at i))
 
+  -- the high column
   pub rows-high : map highOf (rows c) ≡ c .high
   rows-high = ext-getD 0 (map highOf (rows c)) (c .high) (length-map (rows c) highOf ∙ rows-length ∙ sym high-long) (λ i h. List·getD-map highOf (rows c) i blank ∙ ap highOf (rows-at i))
 
@@ -102,41 +109,48 @@ module _ (c : Columns) (low-long : length (c .low) ≡ length (c .letter)) (high
   table-at used i h = getD-take used (rows c) i blank h ∙ rows-at i
 
 module _ (size : ℕ) (t : Table) where
-  -- each column of a table's columns is its padded rows' column
+  -- the letter column of a table's columns is that of its padded rows
   pub columns-letter : columnsOf size t .letter ≡ map letterOf (padded size blank t)
   unfolding columnsOf
   columns-letter = sym (map-padded letterOf size blank t)
 
+  -- the low column
   pub columns-low : columnsOf size t .low ≡ map lowOf (padded size blank t)
   unfolding columnsOf
   columns-low = sym (map-padded lowOf size blank t)
 
+  -- the high column
   pub columns-high : columnsOf size t .high ≡ map highOf (padded size blank t)
   unfolding columnsOf
   columns-high = sym (map-padded highOf size blank t)
 
-  -- the columns are equally long
+  -- the columns have the given length
   pub columns-length : length t ≤ size → length (columnsOf size t .letter) ≡ size
   columns-length h = rw (columns-letter, length-map) (padded-length size blank t h)
 
+  -- the low one is as long as the letters
   pub columns-low-long : length (columnsOf size t .low) ≡ length (columnsOf size t .letter)
   columns-low-long = rw (columns-low, columns-letter) (length-map (padded size blank t) lowOf ∙ sym (length-map (padded size blank t) letterOf))
 
+  -- and so is the high one
   pub columns-high-long : length (columnsOf size t .high) ≡ length (columnsOf size t .letter)
   columns-high-long = rw (columns-high, columns-letter) (length-map (padded size blank t) highOf ∙ sym (length-map (padded size blank t) letterOf))
 
+  -- so they are legal where the size is
   pub columns-lengths : leastEntries ≤ size → size ≤ mostEntries → length t ≤ size → Lengths (columnsOf size t)
   columns-lengths least most h =
       let n : length (columnsOf size t .letter) ≡ size = columns-length h in
       record { least = omega arith; most = omega arith; low-long = columns-low-long; high-long = columns-high-long }
 
-  -- the number at each place of a column
+  -- the number at each place of the letter column
   pub columns-letter-at : (i : ℕ) → getD (columnsOf size t .letter) i 0 ≡ entryAt t i .letter
   columns-letter-at i = rw columns-letter (List·getD-map letterOf (padded size blank t) i blank ∙ ap letterOf (padded-read size blank t i))
 
+  -- in the low column
   pub columns-low-at : (i : ℕ) → getD (columnsOf size t .low) i 0 ≡ entryAt t i .low
   columns-low-at i = rw columns-low (List·getD-map lowOf (padded size blank t) i blank ∙ ap lowOf (padded-read size blank t i))
 
+  -- in the high column
   pub columns-high-at : (i : ℕ) → getD (columnsOf size t .high) i 0 ≡ entryAt t i .high
   columns-high-at i = rw columns-high (List·getD-map highOf (padded size blank t) i blank ∙ ap highOf (padded-read size blank t i))
 
@@ -159,14 +173,17 @@ module _ (size : ℕ) (t : Table) where
       let n : length (map f t) ≡ length t = length-map t f in
       ap (λ (i : ℕ). set (padded size 0 (map f t)) i (f x)) (sym n) ∙ padded-set size 0 (map f t) (f x) (omega arith) ∙ ap (padded size 0) (sym (map-append f t (x ∷ [])))
 
+  -- its letter
   pub columns-letter-set : (x : Entry) → length t < size → set (columnsOf size t .letter) (length t) (x .letter) ≡ columnsOf size (t ++ x ∷ []) .letter
   unfolding columnsOf
   columns-letter-set x h = column-set letterOf x h
 
+  -- its low number
   pub columns-low-set : (x : Entry) → length t < size → set (columnsOf size t .low) (length t) (x .low) ≡ columnsOf size (t ++ x ∷ []) .low
   unfolding columnsOf
   columns-low-set x h = column-set lowOf x h
 
+  -- its high number
   pub columns-high-set : (x : Entry) → length t < size → set (columnsOf size t .high) (length t) (x .high) ≡ columnsOf size (t ++ x ∷ []) .high
   unfolding columnsOf
   columns-high-set x h = column-set highOf x h
@@ -175,13 +192,14 @@ module _ (size : ℕ) (t : Table) where
 pub columns-path : (c d : Columns) → c .letter ≡ d .letter → c .low ≡ d .low → c .high ≡ d .high → c ≡ d
 columns-path c d p q r = λ i. record { letter = p i; low = q i; high = r i }
 
--- entries that pass the test for blanks, and the other way round
+-- entries that pass the test for blanks are blank
 pub blank-each : (xs : Table) → allBlank xs ≡ true → (i : ℕ) → entryAt xs i ≡ blank
 unfolding allBlank
 blank-each [] e i = refl
 blank-each (x ∷ xs) e zero = same-equal x blank (and-left (same x blank) (allBlank xs) e)
 blank-each (x ∷ xs) e (suc i) = blank-each xs (and-right (same x blank) (allBlank xs) e) i
 
+-- blank entries pass the test
 pub each-blank : (xs : Table) → ((i : ℕ) → i < length xs → entryAt xs i ≡ blank) → allBlank xs ≡ true
 unfolding allBlank
 each-blank [] h = refl
@@ -194,6 +212,7 @@ pub record ColumnsSound (letters : ℕ) (c : Columns) (used : ℕ) : Type 0 wher
   pub table : Sound letters (tableOf c used)
   pub past : (i : ℕ) → used ≤ i → entryAt (rows c) i ≡ blank
 
+-- columns that pass the test
 pub columns-record : (letters : ℕ) (c : Columns) (used : ℕ) → columnsSound letters c used ≡ true → ColumnsSound letters c used
 unfolding columnsSound
 columns-record letters c used e =
@@ -214,6 +233,7 @@ columns-record letters c used e =
           ∙ blank-each (drop used (rows c)) (and-right (a && b && d) g e) (i - used);
     }
 
+-- sound columns pass it
 pub columns-test : (letters : ℕ) (c : Columns) (used : ℕ) → ColumnsSound letters c used → columnsSound letters c used ≡ true
 unfolding columnsSound
 columns-test letters c used h =
@@ -247,5 +267,6 @@ columns-sound {letters} size t s h =
       past = λ i le. ap (λ (r : Table). entryAt r i) (rows-columns size t h) ∙ padded-read size blank t i ∙ List·getD-eq-default t blank le;
     }
 
+-- the same as tests
 pub columns-sound-test : (letters size : ℕ) (t : Table) → sound letters t ≡ true → length t ≤ size → columnsSound letters (columnsOf size t) (length t) ≡ true
 columns-sound-test letters size t e h = columns-test letters (columnsOf size t) (length t) (columns-sound size t (sound-record letters t e) h)

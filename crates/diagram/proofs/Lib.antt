@@ -10,3 +10,4 @@ pub mod Answer
 pub mod Calls
 pub mod Count
 pub mod Sum
+pub mod Values

@@ -15,13 +15,15 @@ use Rattle.diagram.proofs.Sound.{Branch, Sound}
 use Rattle.diagram.proofs.Add.{Extends}
 
 module _ (t : Table) (k e : ℕ) where
-  -- the parts of a branch on the letter
+  -- a branch on the letter has its low part for 0
   pub part-low : entryAt t e .letter ≡ k → partOf t k 0 e ≡ entryAt t e .low
   part-low h = rw (eq-eqb (entryAt t e .letter) k h)
 
+  -- the high one, for 1
   pub part-high : entryAt t e .letter ≡ k → partOf t k 1 e ≡ entryAt t e .high
   part-high h = rw (eq-eqb (entryAt t e .letter) k h)
 
+  -- either, by the bit
   pub part-of : (bit : ℕ) → entryAt t e .letter ≡ k → partOf t k bit e ≡ cond (eqb bit 1) (entryAt t e .high) (entryAt t e .low)
   part-of bit h = rw (eq-eqb (entryAt t e .letter) k h)
 
@@ -29,6 +31,7 @@ module _ (t : Table) (k e : ℕ) where
   pub part-self : (bit : ℕ) → (entryAt t e .letter ≡ k → ⊥) → partOf t k bit e ≡ e
   part-self bit h = rw (ne-eqb (entryAt t e .letter) k h)
 
+  -- so is one with a larger letter
   pub part-later : (bit : ℕ) → k < entryAt t e .letter → partOf t k bit e ≡ e
   part-later bit h = part-self bit (λ q. omega arith)
 
@@ -105,13 +108,14 @@ pub number-halves : (n k : ℕ) (t : Table) (e : ℕ) (f : ℕ → ℕ)
 number-halves n k t e f even odd =
     halves n (λ (p : ℕ). numberFrom (suc n) k t e p ≡ f p) (λ q h. number-even n k t e q ∙ even q h) (λ q h. number-odd n k t e q ∙ odd q h)
 
--- and the other way round
+-- the numbers of the low part are the even half
 pub number-low : (n k : ℕ) (t : Table) (e : ℕ) (f : ℕ → ℕ) → ((p : ℕ) → p < 2 ^ suc n → numberFrom (suc n) k t e p ≡ f p)
     → (q : ℕ) → q < 2 ^ n → numberFrom n (suc k) t (partOf t k 0 e) q ≡ f (2 * q)
 number-low n k t e f all q h =
     let two : 2 ^ suc n ≡ 2 * 2 ^ n = pow-succ' 2 n in
     sym (number-even n k t e q) ∙ all (2 * q) (omega arith)
 
+-- the same for the high part
 pub number-high : (n k : ℕ) (t : Table) (e : ℕ) (f : ℕ → ℕ) → ((p : ℕ) → p < 2 ^ suc n → numberFrom (suc n) k t e p ≡ f p)
     → (q : ℕ) → q < 2 ^ n → numberFrom n (suc k) t (partOf t k 1 e) q ≡ f (2 * q + 1)
 number-high n k t e f all q h =
@@ -179,12 +183,14 @@ number-branch {letters} t e p few s h node =
     let b : Branch letters t e (entryAt t e) = s .legal e h .node node in
     number-letter t k e p few s h (b .letter-in) (omega arith) ∙ ap (λ (i : ℕ). numberAt letters t i p) (part-of t k e (letterAt k p) refl)
 
--- the three first entries
+-- entry 0 is 0
 pub number-zeroth : {letters : ℕ} (t : Table) (p : ℕ) → letters ≤ mostLetters → Sound letters t → numberAt letters t 0 p ≡ 0
 number-zeroth {letters} t p few s = number-terminal letters 0 t 0 p (omega arith) (ap (λ (y : Entry). y .letter) (s .zeroth)) ∙ ap (λ (y : Entry). y .low) (s .zeroth)
 
+-- entry 1 is 1
 pub number-first : {letters : ℕ} (t : Table) (p : ℕ) → letters ≤ mostLetters → Sound letters t → numberAt letters t 1 p ≡ 1
 number-first {letters} t p few s = number-terminal letters 0 t 1 p (omega arith) (ap (λ (y : Entry). y .letter) (s .first)) ∙ ap (λ (y : Entry). y .low) (s .first)
 
+-- entry 2 is never
 pub number-second : {letters : ℕ} (t : Table) (p : ℕ) → letters ≤ mostLetters → Sound letters t → numberAt letters t 2 p ≡ never
 number-second {letters} t p few s = number-terminal letters 0 t 2 p (omega arith) (ap (λ (y : Entry). y .letter) (s .second)) ∙ ap (λ (y : Entry). y .low) (s .second)

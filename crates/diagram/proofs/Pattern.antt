@@ -9,10 +9,11 @@ use Rattle.diagram.specs.Pattern.{patterns, letterAt, withLetter}
 pub letter-le : (k p : ℕ) → letterAt k p ≤ 1
 letter-le k p = omega arith
 
--- letter 0 is the lowest bit, and the others are the letters of the half
+-- letter 0 is the lowest bit
 pub letter-zero : (p : ℕ) → letterAt 0 p ≡ p % 2
 letter-zero p = ap (λ (q : ℕ). q % 2) (div-one p)
 
+-- a later letter is a letter of the half
 pub letter-suc : (k p : ℕ) → letterAt (suc k) p ≡ letterAt k (p / 2)
 letter-suc k p = ap (λ (d : ℕ). p / d % 2) (pow-succ' 2 k) ∙ ap (λ (q : ℕ). q % 2) (sym (div-div-eq-div-mul p 2 (2 ^ k)))
 
@@ -30,27 +31,31 @@ pattern-ext (suc n) p q hp hq same =
 letter-share : (k p : ℕ) → letterAt k p * 2 ^ k ≤ p
 letter-share k p = omega (arith, mul-le-mul-right (2 ^ k) (mod-le (p / 2 ^ k) 2), div-mul-le-self p (2 ^ k))
 
--- letter 0 set, and a later letter set, by halves
+-- letter 0 set
 pub with-zero : (bit p : ℕ) → withLetter 0 bit p ≡ 2 * (p / 2) + bit
 with-zero bit p = let low : letterAt 0 p ≡ p % 2 = letter-zero p in omega arith
 
+-- a later letter set, by the half
 pub with-suc : (k bit p : ℕ) → withLetter (suc k) bit p ≡ 2 * withLetter k bit (p / 2) + p % 2
 with-suc k bit p =
     let two : 2 ^ suc k ≡ 2 * 2 ^ k = pow-succ' 2 k in
     rw (letter-suc k p, two) (omega (arith, letter-share k (p / 2)))
 
--- the same at the even and the odd patterns
+-- letter 0 set at an even pattern
 pub with-zero-even : (bit q : ℕ) → withLetter 0 bit (2 * q) ≡ 2 * q + bit
 with-zero-even bit q = omega (arith, with-zero bit (2 * q))
 
+-- at an odd pattern
 pub with-zero-odd : (bit q : ℕ) → withLetter 0 bit (2 * q + 1) ≡ 2 * q + bit
 with-zero-odd bit q = omega (arith, with-zero bit (2 * q + 1))
 
+-- a later letter at an even pattern
 pub with-suc-even : (k bit q : ℕ) → withLetter (suc k) bit (2 * q) ≡ 2 * withLetter k bit q
 with-suc-even k bit q =
     let half : 2 * q / 2 ≡ q = omega arith in
     with-suc k bit (2 * q) ∙ ap (λ (h : ℕ). 2 * withLetter k bit h + 2 * q % 2) half ∙ omega arith
 
+-- a later letter at an odd pattern
 pub with-suc-odd : (k bit q : ℕ) → withLetter (suc k) bit (2 * q + 1) ≡ 2 * withLetter k bit q + 1
 with-suc-odd k bit q =
     let half : (2 * q + 1) / 2 ≡ q = omega arith in
@@ -84,6 +89,14 @@ with-other (suc j) zero bit p one ne =
 with-other (suc j) (suc k) bit p one ne =
     let half : withLetter (suc k) bit p / 2 ≡ withLetter k bit (p / 2) = rw with-suc (omega arith) in
     letter-suc j (withLetter (suc k) bit p) ∙ ap (letterAt j) half ∙ with-other j k bit (p / 2) one (λ e. ne (ap suc e)) ∙ sym (letter-suc j p)
+
+-- the pattern past the letter is kept
+pub with-beyond : (k bit p : ℕ) → bit ≤ 1 → withLetter k bit p / 2 ^ suc k ≡ p / 2 ^ suc k
+with-beyond zero bit p one = rw with-zero (omega arith)
+with-beyond (suc k) bit p one =
+    let half : withLetter (suc k) bit p / 2 ≡ withLetter k bit (p / 2) = rw with-suc (omega arith) in
+    let halve : (q : ℕ) → q / 2 ^ suc (suc k) ≡ q / 2 / 2 ^ suc k = λ q. ap (λ (d : ℕ). q / d) (pow-succ' 2 (suc k)) ∙ sym (div-div-eq-div-mul q 2 (2 ^ suc k)) in
+    halve (withLetter (suc k) bit p) ∙ ap (λ (q : ℕ). q / 2 ^ suc k) half ∙ with-beyond k bit (p / 2) one ∙ sym (halve p)
 
 -- setting a letter twice is setting it once
 pub with-again : (k bit earlier p : ℕ) → earlier ≤ 1 → withLetter k bit (withLetter k earlier p) ≡ withLetter k bit p

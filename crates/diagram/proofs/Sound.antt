@@ -13,13 +13,14 @@ use Rattle.lists.proofs.Below.{below-each, each-below}
 use Rattle.diagram.specs.Table.{Entry, Table, never, terminalLetter, terminal, entryAt, same}
 use Rattle.diagram.specs.Sound.{partLegal, entryLegal, distinct, fixedTerminals, sound}
 
--- equal entries pass the comparison
+-- an entry passes the comparison with itself
 pub same-refl : (a : Entry) → same a a ≡ true
 same-refl a =
     and-both (eqb (a .letter) (a .letter) && eqb (a .low) (a .low)) (eqb (a .high) (a .high))
     (and-both (eqb (a .letter) (a .letter)) (eqb (a .low) (a .low)) (eq-eqb (a .letter) (a .letter) refl) (eq-eqb (a .low) (a .low) refl))
     (eq-eqb (a .high) (a .high) refl)
 
+-- so do two that are equal
 pub equal-same : (a b : Entry) → a ≡ b → same a b ≡ true
 equal-same a b e = rw e (same-refl b)
 
@@ -40,6 +41,7 @@ same-equal a b e =
 pub same-differ : (a b : Entry) → same a b ≡ false → a ≡ b → ⊥
 same-differ a b f e = true-false (same a b) (equal-same a b e) f
 
+-- entries that differ fail it
 pub differ-same : (a b : Entry) → (a ≡ b → ⊥) → same a b ≡ false
 differ-same a b n = ⊎-elim (λ (e : same a b ≡ true). absurd (n (same-equal a b e))) (λ (e : same a b ≡ false). e) (bool-cases (same a b))
 
@@ -113,7 +115,7 @@ module _ (letters : ℕ) (t : Table) (i : ℕ) (x : Entry) where
         ne-eqb (x .low) (x .high) (h .differ),
       )
 
--- the test of an entry and its facts
+-- an entry that passes the test is legal
 pub legal-record : (letters : ℕ) (t : Table) (i : ℕ) → entryLegal letters t i ≡ true → Legal letters t i (entryAt t i)
 unfolding entryLegal
 legal-record letters t i e = record {
@@ -121,6 +123,7 @@ legal-record letters t i e = record {
   node = λ n. branch-record letters t i (entryAt t i) (rw (ne-eqb (entryAt t i .letter) terminalLetter n) at e);
 }
 
+-- a legal entry passes the test
 pub legal-test : (letters : ℕ) (t : Table) (i : ℕ) → Legal letters t i (entryAt t i) → entryLegal letters t i ≡ true
 unfolding entryLegal
 legal-test letters t i h =
@@ -137,7 +140,7 @@ earlier-apart t e i j h g =
     (not-true (same (entryAt t i) (entryAt t j))
     (below-each i (λ k. not (same (entryAt t i) (entryAt t k))) (below-each (length t) (λ m. below m (λ k. not (same (entryAt t m) (entryAt t k)))) e i h) j g))
 
--- the test of distinctness and its fact
+-- a table that passes the test has its entries apart
 pub distinct-apart : (t : Table) → distinct t ≡ true → (i j : ℕ) → i < length t → j < length t → entryAt t i ≡ entryAt t j → i ≡ j
 distinct-apart t e i j hi hj q =
     ⊎-elim
@@ -145,6 +148,7 @@ distinct-apart t e i j hi hj q =
     (λ (g : j ≤ i). ⊎-elim (λ (l : j < i). absurd (earlier-apart t e i j hi l q)) (λ (l : i ≤ j). omega arith) (lt-or-ge j i))
     (lt-or-ge i j)
 
+-- a table whose entries are apart passes the test
 pub apart-distinct : (t : Table) → ((i j : ℕ) → i < length t → j < length t → entryAt t i ≡ entryAt t j → i ≡ j) → distinct t ≡ true
 unfolding distinct
 apart-distinct t h =

@@ -1,8 +1,8 @@
 -- What storing a function gives, and when it adds nothing.
 use mathlib.Core.Path.{_≡_, refl, sym, _∙_, ap}
 use mathlib.Core.Logic.{⊎-elim}
-use Prim.Native.Nat.{ℕ, zero, suc, _+_, _*_, _^_, _<_, _≤_}
-use native.Mathlib.Nat.{pow-succ'}
+use Prim.Native.Nat.{ℕ, zero, suc, _+_, _*_, _/_, _^_, _<_, _≤_}
+use native.Mathlib.Nat.{pow-succ', div-one, div-div-eq-div-mul}
 use native.Mathlib.Omega.{arith}
 use lib.ListN.{length}
 use borrow.Author.Tests.{eq-eqb, ne-eqb}
@@ -36,11 +36,12 @@ pub join-differ : (k : ℕ) (a b : Stored) → (a .entry ≡ b .entry → ⊥) �
 unfolding join
 join-differ k a b n = rw (ne-eqb (a .entry) (b .entry) n)
 
--- storing, one letter at a time
+-- no letters left: the terminal
 pub store-zero : (k : ℕ) (f : ℕ → ℕ) (t : Table) → store 0 k f t ≡ add (terminal (f 0)) t
 unfolding store
 store-zero k f t = refl
 
+-- the first letter: the low half, the high half in the table that it left, and the two joined
 pub store-suc : (n k : ℕ) (f : ℕ → ℕ) (t : Table)
     → store (suc n) k f t ≡ join k (store n (suc k) (λ q. f (2 * q)) t) (store n (suc k) (λ q. f (2 * q + 1)) (store n (suc k) (λ q. f (2 * q)) t .table))
 unfolding store both
@@ -196,6 +197,37 @@ store-ignores n k f t few s sum h =
     store-suc n k f t
     ∙ ap (join k a) (sym (store-ext n (suc k) (λ q. f (2 * q)) (λ q. f (2 * q + 1)) (a .table) h) ∙ store-again n (suc k) (λ q. f (2 * q)) t few s (omega arith))
     ∙ join-same k a a refl
+
+-- a function whose halves are known is stored by them
+pub store-step : (n k : ℕ) (f low high : ℕ → ℕ) (t : Table) → ((q : ℕ) → q < 2 ^ n → f (2 * q) ≡ low q) → ((q : ℕ) → q < 2 ^ n → f (2 * q + 1) ≡ high q)
+    → store (suc n) k f t ≡ join k (store n (suc k) low t) (store n (suc k) high (store n (suc k) low t .table))
+store-step n k f low high t hl hh =
+    store-suc n k f t
+    ∙ ap (λ (c : Stored). join k c (store n (suc k) (λ q. f (2 * q + 1)) (c .table))) (store-ext n (suc k) (λ q. f (2 * q)) low t hl)
+    ∙ ap (join k (store n (suc k) low t)) (store-ext n (suc k) (λ q. f (2 * q + 1)) high (store n (suc k) low t .table) hh)
+
+-- a function with one number is stored by its terminal
+pub store-number : (n k v : ℕ) (f : ℕ → ℕ) (t : Table) → ((p : ℕ) → p < 2 ^ n → f p ≡ v) → store n k f t ≡ add (terminal v) t
+store-number n k v f t h = store-ext n k f (λ _. v) t h ∙ store-constant n k v t
+
+-- a function that ignores m letters is stored from the letter after them on
+pub store-skip : {letters : ℕ} (m n k : ℕ) (f g : ℕ → ℕ) (t : Table) → letters ≤ mostLetters → Sound letters t → m + n + k ≡ letters
+    → ((p : ℕ) → p < 2 ^ (m + n) → f p ≡ g (p / 2 ^ m)) → store (m + n) k f t ≡ store n (m + k) g t
+store-skip zero n k f g t few s sum h =
+    let a : zero + n ≡ n = omega arith in
+    let b : zero + k ≡ k = omega arith in
+    rw (a, b) (store-ext n k f g t (λ p l. h p (rw a l) ∙ ap g (div-one p)))
+store-skip (suc m) n k f g t few s sum h =
+    let a : suc m + n ≡ suc (m + n) = omega arith in
+    let b : suc m + k ≡ m + suc k = omega arith in
+    let two : 2 ^ (suc m + n) ≡ 2 * 2 ^ (m + n) = ap (λ (i : ℕ). 2 ^ i) a ∙ pow-succ' 2 (m + n) in
+    let halve : (p : ℕ) → p / 2 ^ suc m ≡ p / 2 / 2 ^ m = λ p. ap (λ (d : ℕ). p / d) (pow-succ' 2 m) ∙ sym (div-div-eq-div-mul p 2 (2 ^ m)) in
+    let even : (q : ℕ) → q < 2 ^ (m + n) → f (2 * q) ≡ g (q / 2 ^ m) =
+    λ q l. let half : 2 * q / 2 ≡ q = omega arith in h (2 * q) (omega arith) ∙ ap g (halve (2 * q) ∙ ap (λ (i : ℕ). i / 2 ^ m) half) in
+    let odd : (q : ℕ) → q < 2 ^ (m + n) → f (2 * q + 1) ≡ g (q / 2 ^ m) =
+    λ q l. let half : (2 * q + 1) / 2 ≡ q = omega arith in h (2 * q + 1) (omega arith) ∙ ap g (halve (2 * q + 1) ∙ ap (λ (i : ℕ). i / 2 ^ m) half) in
+    rw (a, b)
+    (store-ignores (m + n) k f t few s (omega arith) (λ q l. even q l ∙ sym (odd q l)) ∙ store-skip m n (suc k) (λ q. f (2 * q)) g t few s (omega arith) even)
 
 -- joining adds at most one entry
 pub join-length : (k : ℕ) (a b : Stored) → length (join k a b .table) ≤ suc (length (b .table))

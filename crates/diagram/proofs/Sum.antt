@@ -15,6 +15,7 @@ use Rattle.diagram.specs.Operation.{sum}
 pub sum-never-left : (y : ℕ) → sum never y ≡ never
 sum-never-left y = refl
 
+-- the same on the right
 pub sum-never-right : (x : ℕ) → sum x never ≡ never
 sum-never-right x = rw or-true
 

@@ -19,10 +19,11 @@ lt-or-ge m n = ⊎-map (ltb-true m n) (ltb-false m n) (bool-cases (ltb m n))
 pub eq-or-ne : (m n : ℕ) → (m ≡ n) ⊎ (m ≡ n → ⊥)
 eq-or-ne m n = ⊎-map (eqb-true m n) (eqb-false m n) (bool-cases (eqb m n))
 
--- both parts of a passed conjunction pass
+-- the first part of a passed conjunction passes
 pub and-left : (a b : Bool) → (a && b) ≡ true → a ≡ true
 and-left a b e = and-eq-true-iff a b .0 e .0
 
+-- the second part passes
 pub and-right : (a b : Bool) → (a && b) ≡ true → b ≡ true
 and-right a b e = and-eq-true-iff a b .0 e .1
 

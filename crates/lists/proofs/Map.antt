@@ -16,12 +16,13 @@ module _ {A B : Type 0} (f : A → B) where
   map-replicate zero d = refl
   map-replicate (suc n) d = ap {B = List B} (λ r. f d ∷ r) (map-replicate n d)
 
-  -- in the first elements, and in the rest
+  -- in the first elements
   pub map-take : (n : ℕ) (xs : List A) → map f (take n xs) ≡ take n (map f xs)
   map-take zero xs = refl
   map-take (suc n) [] = refl
   map-take (suc n) (x ∷ xs) = ap {B = List B} (λ r. f x ∷ r) (map-take n xs)
 
+  -- in the rest
   pub map-drop : (n : ℕ) (xs : List A) → map f (drop n xs) ≡ drop n (map f xs)
   map-drop zero xs = refl
   map-drop (suc n) [] = refl
