@@ -1,5 +1,5 @@
 -- Laws of the arithmetic of step rules 4 to 6. Those of division rounded up stand in Rounding.
-use mathlib.Core.Path.{_≡_, refl, subst}
+use mathlib.Core.Path.{_≡_, refl, subst, subst₂}
 use Prim.Native.Nat.{ℕ, _+_, _*_, _-_, _^_, _≤_, _<_, max}
 use native.Mathlib.Nat.{add-comm, mul-comm, mul-pos, le-trans, le-refl}
 use native.Mathlib.Omega.{arith}
@@ -8,7 +8,7 @@ use Rattle.units.specs.declared.Femtofarads.{Femtofarads}
 use Rattle.units.specs.declared.Resistance.{Resistance}
 use Rattle.units.specs.declared.Resistance.the-variants.{Infinite, Finite}
 use Rattle.units.specs.Rules.{ceiling, capped, parallel, armSide, share, delay}
-use Rattle.units.specs.Range.{AtLeast, AtMost, Positive, InRange}
+use Rattle.units.specs.Range.{AtLeast, AtMost, Positive, InRange, Divisible}
 use Rattle.units.proofs.Rounding.{ceilDiv-least, ceilDiv-factor, ceilDiv-positive, ceilDiv-at-most, product-within}
 
 -- a finite resistance is never infinite
@@ -18,6 +18,20 @@ finite-not-infinite e = let z : _≡_ {A = ℕ} 0 1 = cc in omega arith
 -- the ohms of a resistance that is positive and finite
 pub positive-at : {a : Resistance} {b : Ohms} → a ≡ Finite b → Positive a → 1 ≤ b .0
 positive-at e h = subst Positive e h
+
+-- the ohms of a finite divisor of a finite resistance
+pub divisor-at : {a b : Resistance} {s o : Ohms} → a ≡ Finite s → b ≡ Finite o → Divisible a b → 1 ≤ o .0
+divisor-at p q h = subst₂ Divisible p q h
+
+-- every resistance may be divided by an infinite one
+pub divisible-infinite : (a : Resistance) → Divisible a Infinite
+divisible-infinite Infinite = tt
+divisible-infinite (Finite a) = tt
+
+-- by a positive one too
+pub divisible-positive : (a : Resistance) {b : Resistance} → Positive b → Divisible a b
+divisible-positive Infinite h = tt
+divisible-positive (Finite a) h = h
 
 -- a bound from above may be loosened
 pub at-most-weaken : {m n : ℕ} (a : Resistance) → m ≤ n → AtMost m a → AtMost n a

@@ -16,6 +16,11 @@ AtMost n (Finite a) = a .0 ≤ n
 abbrev pub Positive : Resistance → Type 0
 Positive r = AtLeast 1 r
 
+-- a resistance may be divided by another: it is infinite, or the other is not 0 ohms
+abbrev pub Divisible : Resistance → Resistance → Type 0
+Divisible Infinite other = Unit
+Divisible (Finite a) other = Positive other
+
 -- what an arm can have: 1 ohm to the ceiling
 pub record InRange (r : Resistance) : Type 0 where
   pub positive : Positive r

@@ -3,7 +3,7 @@
 // Infinite resistance is a case of its own and never a number. Work is done in 64 bits.
 ghost use mathlib.Core.Path.{_≡_};
 ghost use Prim.Native.Nat.{_+_, _*_, _^_, _≤_, _<_};
-ghost use Rattle.units.specs.Range.{Positive};
+ghost use Rattle.units.specs.Range.{Positive, Divisible};
 ghost use Rattle.units.specs.Rules.{ceilDiv, armSide, delayArm, capped as cappedOf, parallel as parallelOf, joined as joinedOf, share as shareOf, delay as delayOf};
 
 pub struct Ohms(pub u32);
@@ -58,7 +58,7 @@ impl Femtofarads {
 
 // One side of an arm: a transistor of resistance r before a node sum of which `side` is the same side and `other` the other one.
 pub fn arm_side(r: Ohms, side: Resistance, other: Resistance) -> Resistance
-    requires { ⌜ Positive other ⌝ }
+    requires { ⌜ Divisible side other ⌝ }
     ensures { λ result. ⌜ result ≡ armSide r side other ⌝ }
 {
     match side {

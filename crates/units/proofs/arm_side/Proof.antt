@@ -4,7 +4,7 @@ use Prim.Native.Nat.{ℕ, _+_, _*_}
 use native.Mathlib.Omega.{arith}
 use Rattle.units.specs.Rules.{armSide, capped}
 use Rattle.units.proofs.Rounding.{ceilDiv-at-most, product-within}
-use Rattle.units.proofs.Laws.{positive-at}
+use Rattle.units.proofs.Laws.{divisor-at}
 use borrow.Author.Needs.{needs}
 use Rattle.units.proofs.arm_side.Statement.{statement}
 use Rattle.units.proofs.arm_side.Tie as tie
@@ -48,15 +48,17 @@ cast-scaled c = search needs
 scaled-requires : tie.Need-scaled-requires
 scaled-requires c κs =
     let other = c .before .before .before .before .other .given in
-    (positive-at (other .1) (c .before .before .before .before .before .before .before .before .before .pre), omega arith)
+    let side = c .before .before .before .before .before .before .before .side .given in
+    (divisor-at (side .1) (other .1) (c .before .before .before .before .before .before .before .before .before .pre), omega arith)
 
 add-capped-3 : tie.Need-add-capped-3
 add-capped-3 c =
     let other = c .before .before .before .before .before .other .given in
     let start = c .before .before .before .before .before .before .before .before .before .before in
     let r = start .args .r .0 in
-    let side = c .before .before .before .before .before .before .before .before .side .given .0 .0 .0 in
-    omega (arith, c .scaled .ensures, ceilDiv-at-most (positive-at (other .1) (start .pre)) (r * side), product-within {a = r} {b = side} (omega arith) (omega arith))
+    let told = c .before .before .before .before .before .before .before .before .side .given in
+    let side = told .0 .0 .0 in
+    omega (arith, c .scaled .ensures, ceilDiv-at-most (divisor-at (told .1) (other .1) (start .pre)) (r * side), product-within {a = r} {b = side} (omega arith) (omega arith))
 
 capped-requires-2 : tie.Need-capped-requires-2
 capped-requires-2 c κs = search needs
