@@ -29,9 +29,9 @@ divisible-infinite Infinite = tt
 divisible-infinite (Finite a) = tt
 
 -- by a positive one too
-pub divisible-positive : (a : Resistance) {b : Resistance} → Positive b → Divisible a b
-divisible-positive Infinite h = tt
-divisible-positive (Finite a) h = h
+pub divisible-positive : (a b : Resistance) → Positive b → Divisible a b
+divisible-positive Infinite b h = tt
+divisible-positive (Finite a) b h = h
 
 -- a bound from above may be loosened
 pub at-most-weaken : {m n : ℕ} (a : Resistance) → m ≤ n → AtMost m a → AtMost n a
