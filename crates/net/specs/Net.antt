@@ -12,7 +12,7 @@ use Rattle.format.specs.declared.Entry.{Entry}
 use Rattle.format.specs.Circuit.{Circuit, firstNodeNumber}
 use Rattle.rules.specs.State.{upFrom}
 
--- the places: N, M, E, K, H, then each field of the records, then for each node number how many arms it has, then the arms
+-- the places: N, M, E, K, H, then each field of the records, then for each node number how many arms it has, the arms, and its group
 abbrev pub nodesPlace : ℕ
 nodesPlace = 0
 
@@ -67,8 +67,11 @@ degreePlace = 592
 abbrev pub armsPlace : ℕ
 armsPlace = 624
 
+abbrev pub groupPlace : ℕ
+groupPlace = 2288
+
 abbrev pub netLength : ℕ
-netLength = 2288
+netLength = 2314
 
 abbrev pub at : List ℕ → ℕ → ℕ
 at net i = getD net i 0
@@ -117,3 +120,7 @@ armsOf c n = armsFrom n 0 (c .transistors)
 -- the arms that the column lists for node n
 abbrev pub netArms : List ℕ → ℕ → List ℕ
 netArms net n = take (at net (degreePlace + n)) (drop (armsPlace + 64 * n) net)
+
+-- the label of node n's group
+abbrev pub netGroup : List ℕ → ℕ → ℕ
+netGroup net n = at net (groupPlace + n)
