@@ -3,3 +3,7 @@ pub mod State
 pub mod Arrive
 pub mod Step
 pub mod Time
+pub mod StoreAll
+pub mod Moment
+pub mod Readable
+pub mod RunSteps
