@@ -1,44 +1,99 @@
--- The definitions computed on the inverter.
+-- Runs of small cells, computed: what a run shows after its start and after each step.
 use mathlib.Core.Path.{_≡_, refl}
-use mathlib.Core.Bool.{true, false}
-use mathlib.Core.List.{List, [], _∷_, _++_}
+use mathlib.Core.List.{List, [], _∷_}
 use Prim.Native.Nat.{ℕ, zero, suc}
-use lib.ListN.{length}
-use Rattle.lists.specs.Tests.{below}
-use Rattle.units.specs.Units.{ohms, femtofarads, picoseconds}
-use Rattle.units.specs.Rules.{ceilDiv, parallel, armSide, share, delay}
-use Rattle.format.specs.Circuit.{Circuit, every}
-use Rattle.diagram.specs.Table.{Table, numberFrom}
-use Rattle.diagram.specs.Store.{find, add, join, both, store, fresh}
-use Rattle.diagram.specs.Operation.{twoValued}
-use Rattle.rules.specs.State.{upFrom}
-use Rattle.rules.specs.Arrive.{sourceAt, scheduled, arrived}
-use Rattle.rules.specs.Group.{linkFrom, groups, some, touched}
-use Rattle.rules.specs.Kept.{keptFrom, kept}
-use Rattle.rules.specs.Sum.{overArms, nodeSum, newValue}
-use Rattle.rules.specs.Delay.{nodeLoad}
-use Rattle.rules.specs.Step.{target, delayTo, nextChange, stepped, initial, started}
-use Rattle.rules.specs.Run.{soonest, patternTime, leastBelow, nextTime, Run, Moment, stateOf, storeAll, momentOf, startMoment, timeAfter, stepMoment}
+use Rattle.refusal.specs.Answer.{Answer, refused, answered}
+use Rattle.format.specs.Circuit.{Circuit}
+use Rattle.format.specs.Legal.{checkCircuit}
+use Rattle.diagram.specs.Table.{never}
+use Rattle.diagram.specs.Store.{fresh}
+use Rattle.rules.specs.Run.{Moment, stateOf, startMoment, stepMoment}
+use Rattle.rules.specs.Cases.{ground, supply, low, high, input, inner, nType, pType, at, cell}
+use Rattle.rules.proofs.Opened.{opened}
 
--- document 01's inverter
-abbrev inverter : Circuit
-inverter = record {
-  letters = 2;
-  horizon = picoseconds 1000;
-  nodes = record { role = 1; start = 2; capacitance = femtofarads 0 } ∷ record { role = 0; start = 3; capacitance = femtofarads 50 } ∷ [];
-  transistors =
-      record { polarity = 1; gate = 2; first = 1; second = 3; resistance = ohms 2000 }
-      ∷ record { polarity = 0; gate = 2; first = 0; second = 3; resistance = ohms 1000 } ∷ [];
-  schedule = record { input = 2; source = 4; time = picoseconds 200 } ∷ [];
-}
+-- a moment at one pattern: the time, the values of the node records, their next changes
+pub record Line : Type 0 where
+  pub time : ℕ
+  pub values : List ℕ
+  pub changes : List ℕ
 
--- the time and the used count at a moment and after each of some steps
-run : ℕ → Circuit → Moment → List ℕ
-run zero c m = m .run .time ∷ m .run .used ∷ []
-run (suc n) c m =
+abbrev pub line : ℕ → List ℕ → List ℕ → Line
+line time values changes = record { time = time; values = values; changes = changes }
+
+unfoldable pub lineOf : Circuit → ℕ → Moment → Line
+lineOf c pattern m =
+    let s = stateOf c (m .table) (m .run) pattern in
+    line (m .run .time) (s .values) (s .changes)
+
+unfoldable pub linesFrom : ℕ → ℕ → Circuit → Moment → List Line
+linesFrom zero pattern c m = lineOf c pattern m ∷ []
+linesFrom (suc steps) pattern c m =
     let next = stepMoment c m in
-    m .run .time ∷ m .run .used ∷ run n c next
+    lineOf c pattern m ∷ linesFrom steps pattern c next
 
-inverter-run : run 3 inverter (startMoment inverter fresh) ≡ 0 ∷ 5 ∷ 200 ∷ 11 ∷ 250 ∷ 14 ∷ 300 ∷ 14 ∷ []
-unfolding run ceilDiv parallel armSide share delay every numberFrom find add join both store upFrom sourceAt scheduled arrived linkFrom groups some touched keptFrom kept overArms nodeSum newValue nodeLoad target delayTo nextChange stepped initial started soonest patternTime leastBelow nextTime stateOf storeAll momentOf startMoment timeAfter stepMoment
-inverter-run = refl
+-- the start of a legal cell, and some steps
+unfoldable pub linesOf : ℕ → ℕ → Answer Circuit → List Line
+linesOf steps pattern (refused why) = []
+linesOf steps pattern (answered c) = linesFrom steps pattern c (startMoment c fresh)
+
+unfoldable pub listing : ℕ → ℕ → Circuit → List Line
+unfolding opened lineOf linesFrom linesOf
+listing steps pattern c = linesOf steps pattern (checkCircuit c)
+
+-- Charge alone decides: while the channel conducts, 30 fF high against 20 fF low, and the low node rises after 1 ps, whatever the ohms.
+abbrev sharing : Circuit
+sharing = cell 0 (input low ∷ inner high 30 ∷ inner low 20 ∷ []) (nType 2 3 4 1000000 ∷ []) (at 5 2 high ∷ at 7 2 low ∷ [])
+
+pub charge-shared :
+    listing 3 0 sharing
+    ≡ line 0 (0 ∷ 1 ∷ 0 ∷ []) (never ∷ never ∷ never ∷ [])
+    ∷ line 5 (1 ∷ 1 ∷ 0 ∷ []) (never ∷ never ∷ 6 ∷ [])
+    ∷ line 6 (1 ∷ 1 ∷ 1 ∷ []) (never ∷ never ∷ never ∷ [])
+    ∷ line 7 (0 ∷ 1 ∷ 1 ∷ []) (never ∷ never ∷ never ∷ [])
+    ∷ []
+unfolding listing
+charge-shared = refl
+
+-- The horizon itself, 1000, is a time; 1001 is never.
+abbrev longRise : Circuit
+longRise = cell 0 (inner low 1000 ∷ inner low 1001 ∷ []) (pType ground supply 2 1000 ∷ pType ground supply 3 1000 ∷ []) []
+
+pub horizon-reached :
+    listing 1 0 longRise
+    ≡ line 0 (0 ∷ 0 ∷ []) (1000 ∷ never ∷ [])
+    ∷ line 1000 (1 ∷ 0 ∷ []) (never ∷ never ∷ [])
+    ∷ []
+unfolding listing
+horizon-reached = refl
+
+-- Parallel joins by rising number, rounded up each time. 7, 9, 12: 63/16 is 4, 48/16 is 3. 12, 9, 7: 108/21 is 6, 42/13 is 4.
+abbrev orders : Circuit
+orders =
+    cell 0
+    (inner low 1000 ∷ inner low 1000 ∷ [])
+    (pType ground supply 2 7
+    ∷ pType ground supply 2 9
+    ∷ pType ground supply 2 12
+    ∷ pType ground supply 3 12
+    ∷ pType ground supply 3 9
+    ∷ pType ground supply 3 7
+    ∷ [])
+    []
+
+pub order-of-joins : listing 0 0 orders ≡ line 0 (0 ∷ 0 ∷ []) (3 ∷ 4 ∷ []) ∷ []
+unfolding listing
+order-of-joins = refl
+
+-- A pulse shorter than the delay: the fall at 10 + 50 is dropped at 30, when the new value is the present one again.
+abbrev pulsed : Circuit
+pulsed =
+    cell 0 (input low ∷ inner high 50 ∷ []) (pType 2 supply 3 2000 ∷ nType 2 ground 3 1000 ∷ []) (at 10 2 high ∷ at 30 2 low ∷ [])
+
+pub pulse-dropped :
+    listing 2 0 pulsed
+    ≡ line 0 (0 ∷ 1 ∷ []) (never ∷ never ∷ [])
+    ∷ line 10 (1 ∷ 1 ∷ []) (never ∷ 60 ∷ [])
+    ∷ line 30 (0 ∷ 1 ∷ []) (never ∷ never ∷ [])
+    ∷ []
+unfolding listing
+pulse-dropped = refl

@@ -7,3 +7,6 @@ pub mod StoreAll
 pub mod Moment
 pub mod Readable
 pub mod RunSteps
+pub mod Cases
+pub mod Mistakes
+pub mod Opened

@@ -7,3 +7,4 @@ pub mod Delay
 pub mod Step
 pub mod Run
 pub mod Call
+pub mod Cases

@@ -1,0 +1,284 @@
+-- Mistakes near at hand, each shut out by a small cell that it would compute otherwise. What is expected was worked out by hand from
+-- document 01; the comments say how, and what the mistake would give.
+use mathlib.Core.Path.{_≡_, refl}
+use mathlib.Core.List.{List, [], _∷_, _++_, map}
+use Prim.Native.Nat.{ℕ}
+use Rattle.units.specs.declared.Resistance.the-variants.{Infinite, Finite}
+use Rattle.units.specs.Units.{ohms, femtofarads}
+use Rattle.units.specs.Rules.{ceiling}
+use Rattle.format.specs.Circuit.{Circuit}
+use Rattle.diagram.specs.Table.{never, terminal, branch}
+use Rattle.diagram.specs.Store.{fresh}
+use Rattle.rules.specs.Kept.{Channel, kept}
+use Rattle.rules.specs.Sum.{newValue}
+use Rattle.rules.specs.Step.{initial}
+use Rattle.rules.specs.Run.{startMoment}
+use Rattle.rules.specs.Cases.{ground, supply, low, high, letter, complement, input, inner, nType, pType, at, cell, newValues}
+use Rattle.rules.proofs.Opened.{opened}
+use Rattle.rules.proofs.Examples.{line, listing}
+
+-- Reconsidering a node for patterns in which nothing touched its group.
+-- Nodes 4 and 5 are one group, joined at 95; node 5 is then to rise over 1100 ohm with 100 + 100 × 1000 / 1100 = 191 fF: 95 + 211 = 306.
+-- Node 4 rises at 100, which touches no group. At 101 the input 2, at the end of a channel that never conducts, takes letter 0.
+-- Where that is 0 nothing changed: 306 stays. Where it is 1 the group is touched, and with 100 fF left: 101 + 110 = 211.
+-- Reconsidered at 100, node 5 would rise at 210; at 101 for both patterns, at 211 in both.
+abbrev touching : Circuit
+touching =
+    cell 1
+    (input low ∷ input low ∷ inner low 100 ∷ inner low 100 ∷ [])
+    (pType ground supply 4 1000 ∷ nType 3 4 5 100 ∷ nType ground 2 5 10 ∷ [])
+    (at 95 3 high ∷ at 101 2 (letter 0) ∷ [])
+
+pub untouched-pattern-keeps :
+    listing 5 0 touching
+    ≡ line 0 (0 ∷ 0 ∷ 0 ∷ 0 ∷ []) (never ∷ never ∷ 100 ∷ never ∷ [])
+    ∷ line 95 (0 ∷ 1 ∷ 0 ∷ 0 ∷ []) (never ∷ never ∷ 100 ∷ 306 ∷ [])
+    ∷ line 100 (0 ∷ 1 ∷ 1 ∷ 0 ∷ []) (never ∷ never ∷ never ∷ 306 ∷ [])
+    ∷ line 101 (0 ∷ 1 ∷ 1 ∷ 0 ∷ []) (never ∷ never ∷ never ∷ 306 ∷ [])
+    ∷ line 211 (0 ∷ 1 ∷ 1 ∷ 0 ∷ []) (never ∷ never ∷ never ∷ 306 ∷ [])
+    ∷ line 306 (0 ∷ 1 ∷ 1 ∷ 1 ∷ []) (never ∷ never ∷ never ∷ never ∷ [])
+    ∷ []
+unfolding listing
+untouched-pattern-keeps = refl
+
+pub touched-pattern-reconsidered :
+    listing 4 1 touching
+    ≡ line 0 (0 ∷ 0 ∷ 0 ∷ 0 ∷ []) (never ∷ never ∷ 100 ∷ never ∷ [])
+    ∷ line 95 (0 ∷ 1 ∷ 0 ∷ 0 ∷ []) (never ∷ never ∷ 100 ∷ 306 ∷ [])
+    ∷ line 100 (0 ∷ 1 ∷ 1 ∷ 0 ∷ []) (never ∷ never ∷ never ∷ 306 ∷ [])
+    ∷ line 101 (1 ∷ 1 ∷ 1 ∷ 0 ∷ []) (never ∷ never ∷ never ∷ 211 ∷ [])
+    ∷ line 211 (1 ∷ 1 ∷ 1 ∷ 1 ∷ []) (never ∷ never ∷ never ∷ never ∷ [])
+    ∷ []
+unfolding listing
+touched-pattern-reconsidered = refl
+
+-- Flipping one node and reading its neighbours before the rest.
+-- At 60 node 2 rises (1000 ohm, 60 fF) and input 4 falls. Before: 600 ohm to supply, 1000 to ground, high. After: the other 1000 ohm to
+-- ground alone, and 50 fF: node 3 falls at 110. With node 2 flipped first both are to ground, 500 ohm: 85. With input 4 first, or
+-- neither, supply holds node 3.
+abbrev together : Circuit
+together =
+    cell 0
+    (inner low 60 ∷ inner high 50 ∷ input high ∷ [])
+    (pType ground supply 2 1000 ∷ pType 2 supply 3 600 ∷ nType 2 ground 3 1000 ∷ nType 4 ground 3 1000 ∷ [])
+    (at 60 4 low ∷ [])
+
+pub all-flips-before-reading :
+    listing 2 0 together
+    ≡ line 0 (0 ∷ 1 ∷ 1 ∷ []) (60 ∷ never ∷ never ∷ [])
+    ∷ line 60 (1 ∷ 1 ∷ 0 ∷ []) (never ∷ 110 ∷ never ∷ [])
+    ∷ line 110 (1 ∷ 0 ∷ 0 ∷ []) (never ∷ never ∷ never ∷ [])
+    ∷ []
+unfolding listing
+all-flips-before-reading = refl
+
+-- A precharged output 2 behind two n in series, the middle 3 low. At 10 the lower one shuts as the upper one opens: nothing drives, and
+-- the output's 50 fF lift the middle after 1 ps. With the upper one open before the lower one shuts the output would be driven low.
+abbrev precharged : Circuit
+precharged =
+    cell 0
+    (inner high 50 ∷ inner low 10 ∷ input low ∷ input high ∷ [])
+    (nType 4 2 3 1000 ∷ nType 5 ground 3 1000 ∷ [])
+    (at 10 4 high ∷ at 10 5 low ∷ [])
+
+pub no-path-in-between :
+    listing 2 0 precharged
+    ≡ line 0 (1 ∷ 0 ∷ 0 ∷ 1 ∷ []) (never ∷ never ∷ never ∷ never ∷ [])
+    ∷ line 10 (1 ∷ 0 ∷ 1 ∷ 0 ∷ []) (never ∷ 11 ∷ never ∷ never ∷ [])
+    ∷ line 11 (1 ∷ 1 ∷ 1 ∷ 0 ∷ []) (never ∷ never ∷ never ∷ never ∷ [])
+    ∷ []
+unfolding listing
+no-path-in-between = refl
+
+-- the numbers of the kept transistors at the start
+pub keptNumbers : Circuit → List ℕ
+unfolding opened
+keptNumbers c = map (λ (k : Channel). k .number) (kept c (initial c 0))
+
+-- Counting two parallel pull-ups through supply as a loop to break, or two channels from an input.
+-- Node 3: 500 ohm, 100 fF: 50 (with one pull-up 100). Node 4: 250 ohm, 40 fF: 10 (with one channel 20).
+abbrev pullUps : Circuit
+pullUps =
+    cell 0
+    (input high ∷ inner low 100 ∷ inner low 40 ∷ [])
+    (pType ground supply 3 1000 ∷ pType ground supply 3 1000 ∷ nType supply 2 4 500 ∷ pType ground 2 4 500 ∷ [])
+    []
+
+pub pull-ups-are-no-loop : listing 0 0 pullUps ≡ line 0 (1 ∷ 0 ∷ 0 ∷ []) (never ∷ 50 ∷ 10 ∷ []) ∷ []
+unfolding listing
+pull-ups-are-no-loop = refl
+
+pub pull-ups-kept : keptNumbers pullUps ≡ 0 ∷ 1 ∷ 2 ∷ 3 ∷ []
+unfolding keptNumbers
+pull-ups-kept = refl
+
+-- Two nodes that meet at supply are not joined by it, so the channel between them is kept.
+-- For each node 1000 ohm beside 2000, 667, and 10 + 10 × 1000 / 2000 = 15 fF: 11 (without the channel 10).
+abbrev meetAtRail : Circuit
+meetAtRail =
+    cell 0
+    (inner low 10 ∷ inner low 10 ∷ [])
+    (pType ground supply 2 1000 ∷ pType ground supply 3 1000 ∷ nType supply 2 3 1000 ∷ [])
+    []
+
+pub rail-joins-nothing : listing 0 0 meetAtRail ≡ line 0 (0 ∷ 0 ∷ []) (11 ∷ 11 ∷ []) ∷ []
+unfolding listing
+rail-joins-nothing = refl
+
+-- Of two channels between the same inner nodes the second is broken.
+-- Node 2: 1000 ohm, 30 + 10 fF: 40. Node 3: 1500 ohm, 10 + 30 × 1000 / 1500 = 30 fF: 45 (with both channels 1250 ohm and 34 fF: 43).
+abbrev passGate : Circuit
+passGate =
+    cell 0
+    (inner low 30 ∷ inner low 10 ∷ [])
+    (pType ground supply 2 1000 ∷ nType supply 2 3 500 ∷ pType ground 2 3 500 ∷ [])
+    []
+
+pub second-channel-broken : listing 0 0 passGate ≡ line 0 (0 ∷ 0 ∷ []) (40 ∷ 45 ∷ []) ∷ []
+unfolding listing
+second-channel-broken = refl
+
+-- A ring of three nodes pulled up at node 2, so that the third channel is broken.
+-- 2: 1000 ohm, 30 fF. 3: 2000 ohm, 10 + 10 + 10 × 1000 / 2000 = 25 fF. 4: 3000 ohm, 10 + 15 × 2000 / 3000 = 20 fF.
+abbrev ring : Circuit
+ring =
+    cell 0
+    (inner low 10 ∷ inner low 10 ∷ inner low 10 ∷ [])
+    (nType supply 2 3 1000 ∷ nType supply 3 4 1000 ∷ nType supply 4 2 1000 ∷ pType ground supply 2 1000 ∷ [])
+    []
+
+pub ring-broken-once : listing 0 0 ring ≡ line 0 (0 ∷ 0 ∷ 0 ∷ []) (30 ∷ 50 ∷ 60 ∷ []) ∷ []
+unfolding listing
+ring-broken-once = refl
+
+pub ring-kept : keptNumbers ring ≡ 0 ∷ 1 ∷ 3 ∷ []
+unfolding keptNumbers
+ring-kept = refl
+
+-- Taking the ceiling of resistance for infinite.
+-- Node 3 has 1,000,000 ohm to supply and 1 to ground. Its arm of 999,000: high is far above the ceiling and becomes 1,000,000,000,
+-- low is 1 + 999,000 + 1 = 999,002. Node 2 joins 999,500 to supply: 1,000,000,000 beside 999,500 is 998,502, less than 999,002: high.
+-- Were the ceiling infinite, or were there none, 999,500 would be left for high, more than 999,002: low.
+abbrev nearCeiling : Circuit
+nearCeiling =
+    cell 0
+    (inner low 1 ∷ inner low 1 ∷ [])
+    (pType ground supply 3 1000000 ∷ nType supply ground 3 1 ∷ nType supply 2 3 999000 ∷ pType ground supply 2 999500 ∷ [])
+    []
+
+pub ceiling-is-finite : newValues nearCeiling 0 ≡ 1 ∷ 0 ∷ []
+unfolding opened newValues
+ceiling-is-finite = refl
+
+-- a side at the ceiling drives, whatever the charges
+pub ceiling-drives-high :
+    newValue (record { high = Finite (ohms ceiling); low = Infinite; highCharge = femtofarads 0; lowCharge = femtofarads 1 }) 0 ≡ 1
+unfolding newValue
+ceiling-drives-high = refl
+
+pub ceiling-drives-low :
+    newValue (record { high = Infinite; low = Finite (ohms ceiling); highCharge = femtofarads 1; lowCharge = femtofarads 0 }) 1 ≡ 0
+unfolding newValue
+ceiling-drives-low = refl
+
+-- Equality decided one way. Node 3 has 1000 ohm to either rail, and so node 2 has 2000 behind its channel, on either side:
+-- at both patterns both nodes keep their values, which differ.
+abbrev balanced : Circuit
+balanced =
+    cell 1
+    (inner (letter 0) 10 ∷ inner (complement 0) 10 ∷ [])
+    (nType supply supply 3 1000 ∷ nType supply ground 3 1000 ∷ nType supply 2 3 500 ∷ [])
+    []
+
+pub equality-keeps :
+    listing 0 0 balanced ++ listing 0 1 balanced
+    ≡ line 0 (0 ∷ 1 ∷ []) (never ∷ never ∷ [])
+    ∷ line 0 (1 ∷ 0 ∷ []) (never ∷ never ∷ [])
+    ∷ []
+unfolding listing
+equality-keeps = refl
+
+-- T taken from one pattern only. Node 3 starts as its gate, so it rises at 100 where letter 0 is 0 and falls at 50 where it is 1.
+abbrev follower : ℕ → ℕ → Circuit
+follower up down = cell 1 (input (letter 0) ∷ inner (letter 0) 50 ∷ []) (pType 2 supply 3 up ∷ nType 2 ground 3 down ∷ []) []
+
+pub earliest-of-all-patterns :
+    listing 2 0 (follower 2000 1000)
+    ≡ line 0 (0 ∷ 0 ∷ []) (never ∷ 100 ∷ [])
+    ∷ line 50 (0 ∷ 0 ∷ []) (never ∷ 100 ∷ [])
+    ∷ line 100 (0 ∷ 1 ∷ []) (never ∷ never ∷ [])
+    ∷ []
+unfolding listing
+earliest-of-all-patterns = refl
+
+-- the ohms exchanged: the first pattern is the earlier one
+pub earliest-of-the-first-pattern :
+    listing 2 1 (follower 1000 2000)
+    ≡ line 0 (1 ∷ 1 ∷ []) (never ∷ 100 ∷ [])
+    ∷ line 50 (1 ∷ 1 ∷ []) (never ∷ 100 ∷ [])
+    ∷ line 100 (1 ∷ 0 ∷ []) (never ∷ never ∷ [])
+    ∷ []
+unfolding listing
+earliest-of-the-first-pattern = refl
+
+-- Next changes stored before or between the values. Node 2 is letter 1 and rises at 10 where it is low; node 3 is letter 0 and rises at
+-- 20. Entries 3 and 4 are the values in node order; then 10 and its branch on letter 1, then 20 and its branch on letter 0.
+abbrev rising : Circuit
+rising = cell 2 (inner (letter 1) 10 ∷ inner (letter 0) 10 ∷ []) (pType ground supply 2 1000 ∷ pType ground supply 3 2000 ∷ []) []
+
+pub values-stored-first :
+    startMoment rising fresh
+    ≡ record {
+      run = record { time = 0; used = 9; values = 3 ∷ 4 ∷ []; changes = 6 ∷ 8 ∷ [] };
+      table = fresh ++ (branch 1 0 1 ∷ branch 0 0 1 ∷ terminal 10 ∷ branch 1 5 2 ∷ terminal 20 ∷ branch 0 7 2 ∷ []);
+    }
+unfolding opened
+values-stored-first = refl
+
+-- A transistor with both ends driven taken into a group. As `touching`, but input 2 gates a channel from supply to input 3: its change
+-- at 101 touches nothing, and node 5 rises at 306.
+abbrev drivenEnds : Circuit
+drivenEnds =
+    cell 0
+    (input low ∷ input low ∷ inner low 100 ∷ inner low 100 ∷ [])
+    (pType ground supply 4 1000 ∷ nType 3 4 5 100 ∷ nType 2 supply 3 10 ∷ [])
+    (at 95 3 high ∷ at 101 2 high ∷ [])
+
+pub driven-ends-have-no-group :
+    listing 4 0 drivenEnds
+    ≡ line 0 (0 ∷ 0 ∷ 0 ∷ 0 ∷ []) (never ∷ never ∷ 100 ∷ never ∷ [])
+    ∷ line 95 (0 ∷ 1 ∷ 0 ∷ 0 ∷ []) (never ∷ never ∷ 100 ∷ 306 ∷ [])
+    ∷ line 100 (0 ∷ 1 ∷ 1 ∷ 0 ∷ []) (never ∷ never ∷ never ∷ 306 ∷ [])
+    ∷ line 101 (1 ∷ 1 ∷ 1 ∷ 0 ∷ []) (never ∷ never ∷ never ∷ 306 ∷ [])
+    ∷ line 306 (1 ∷ 1 ∷ 1 ∷ 1 ∷ []) (never ∷ never ∷ never ∷ never ∷ [])
+    ∷ []
+unfolding listing
+driven-ends-have-no-group = refl
+
+-- A node that no channel reaches, 3, keeps its charge; node 4 beside it falls 20 ps after its gate rises.
+abbrev alone : Circuit
+alone = cell 0 (input low ∷ inner high 10 ∷ inner high 20 ∷ []) (nType 2 ground 4 1000 ∷ []) (at 10 2 high ∷ [])
+
+pub node-alone-keeps :
+    listing 2 0 alone
+    ≡ line 0 (0 ∷ 1 ∷ 1 ∷ []) (never ∷ never ∷ never ∷ [])
+    ∷ line 10 (1 ∷ 1 ∷ 1 ∷ []) (never ∷ never ∷ 30 ∷ [])
+    ∷ line 30 (1 ∷ 1 ∷ 0 ∷ []) (never ∷ never ∷ never ∷ [])
+    ∷ []
+unfolding listing
+node-alone-keeps = refl
+
+-- A node that gates its own pull-down: 1000 ohm against 3000 to supply. Each flip of its touches its group, so it gets its next change at
+-- once: down in 40, up in 120.
+abbrev selfGated : Circuit
+selfGated = cell 0 (inner high 40 ∷ []) (nType 2 ground 2 1000 ∷ pType ground supply 2 3000 ∷ []) []
+
+pub own-gate-touches :
+    listing 3 0 selfGated
+    ≡ line 0 (1 ∷ []) (40 ∷ [])
+    ∷ line 40 (0 ∷ []) (160 ∷ [])
+    ∷ line 160 (1 ∷ []) (200 ∷ [])
+    ∷ line 200 (0 ∷ []) (320 ∷ [])
+    ∷ []
+unfolding listing
+own-gate-touches = refl
