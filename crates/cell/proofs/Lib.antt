@@ -1,0 +1,5 @@
+pub mod Firsts
+pub mod Loops
+pub mod Kept
+pub mod Check
+pub mod Read
