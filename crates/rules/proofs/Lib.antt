@@ -10,3 +10,7 @@ pub mod RunSteps
 pub mod Cases
 pub mod Mistakes
 pub mod Opened
+pub mod Label
+pub mod Forest
+pub mod Walk
+pub mod Range
