@@ -1,0 +1,54 @@
+-- `print_transistors` prints the places below its count; every place is below the array's length.
+use Prim.Native.Nat.{_≤_, _-_}
+use borrow.Author.Needs.{needs}
+use Rattle.show.proofs.print_transistors.Statement.{statement}
+use Rattle.show.proofs.print_transistors.Tie as tie
+
+abbrev Inv-loop : tie.InvT-loop
+Inv-loop cell n i₀ i = i ≤ 64
+
+abbrev μ-loop : tie.MeasureT-loop
+μ-loop cell n i₀ i = 64 - i
+
+loop-holds : tie.Need-loop-holds Inv-loop μ-loop
+loop-holds c = search needs
+
+cast-at : tie.Need-cast-at Inv-loop μ-loop
+cast-at c = search needs
+
+mul-print-transistor : tie.Need-mul-print-transistor Inv-loop μ-loop
+mul-print-transistor c = search needs
+
+element-copy-out-print-transistor : tie.Need-element-copy-out-print-transistor Inv-loop μ-loop
+element-copy-out-print-transistor c = search needs
+
+print-transistor-requires : tie.Need-print-transistor-requires Inv-loop μ-loop
+print-transistor-requires c κs = search needs
+
+add-i : tie.Need-add-i Inv-loop μ-loop
+add-i c = search needs
+
+loop-less : tie.Need-loop-less Inv-loop μ-loop
+loop-less c = search needs
+
+loop-again : tie.Need-loop-again Inv-loop μ-loop
+loop-again c = search needs
+
+returns : tie.Need-returns Inv-loop μ-loop
+returns c = search needs
+
+pub print-transistors-spec : {M : Type 1} → statement M
+print-transistors-spec =
+    tie.close
+    (tie.spec
+    Inv-loop
+    μ-loop
+    loop-holds
+    cast-at
+    mul-print-transistor
+    element-copy-out-print-transistor
+    print-transistor-requires
+    add-i
+    loop-less
+    loop-again
+    returns)
