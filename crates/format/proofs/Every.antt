@@ -11,20 +11,8 @@ use lib.ListN.{length, getD, take}
 use lib.Seq.{take-suc}
 use lib.Dec.{ltb, eqb}
 use borrow.Author.Tests.{ltb-true, ltb-false, eqb-true, eqb-false}
+pub use Rattle.lists.proofs.Cases.{bool-cases, lt-or-ge, eq-or-ne}
 use Rattle.format.specs.Circuit.{every}
-
--- a test is true or false
-pub bool-cases : (x : Bool) → (x ≡ true) ⊎ (x ≡ false)
-bool-cases true = inl refl
-bool-cases false = inr refl
-
--- a number is below another or not
-pub lt-or-ge : (m n : ℕ) → (m < n) ⊎ (n ≤ m)
-lt-or-ge m n = ⊎-map (ltb-true m n) (ltb-false m n) (bool-cases (ltb m n))
-
--- two numbers are equal or not
-pub eq-or-ne : (m n : ℕ) → (m ≡ n) ⊎ (m ≡ n → ⊥)
-eq-or-ne m n = ⊎-map (eqb-true m n) (eqb-false m n) (bool-cases (eqb m n))
 
 -- of two tests joined, the first holds
 pub both-first : (a b : Bool) → a && b ≡ true → a ≡ true

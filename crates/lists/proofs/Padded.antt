@@ -3,6 +3,7 @@ use mathlib.Core.Path.{_≡_, refl, _∙_, ap}
 use mathlib.Core.Logic.{⊎-elim}
 use mathlib.Core.List.{List, [], _∷_, _++_}
 use Prim.Native.Nat.{ℕ, zero, suc, _+_, _-_, _<_, _≤_}
+use native.Mathlib.Nat.{sub-zero}
 use native.Mathlib.Omega.{arith}
 use lib.ListN.{length, getD, take, drop, set, replicate, length-append, length-replicate, length-set, take-append-drop, List·getD-append, List·getD-eq-default}
 use lib.Seq.{take-append-seam, drop-append-seam, getD-append-add, set-append-seam, set-append-left, append-snoc, length-take-le}
@@ -57,3 +58,15 @@ module _ {A : Type 0} (m : ℕ) (d : A) (xs : List A) where
 pub padded-of-take : {A : Type 0} (d : A) (column : List A) (n : ℕ) → n ≤ length column → drop n column ≡ replicate (length column - n) d
     → padded (length column) d (take n column) ≡ column
 padded-of-take d column n h e = rw (length-take-le n column h, ← e) (take-append-drop n column)
+
+-- nothing written yet
+pub padded-none : {A : Type 0} (m : ℕ) (d : A) → padded m d [] ≡ replicate m d
+padded-none m d = rw sub-zero
+
+-- the list stands first, its length by another name
+pub padded-first : {A : Type 0} (m n : ℕ) (d : A) (xs : List A) → length xs ≡ n → take n (padded m d xs) ≡ xs
+padded-first m n d xs e = rw (← e) (padded-take m d xs)
+
+-- and the next element is written there
+pub padded-put : {A : Type 0} (m n : ℕ) (d v : A) (xs : List A) → length xs ≡ n → n < m → set (padded m d xs) n v ≡ padded m d (xs ++ v ∷ [])
+padded-put m n d v xs e h = rw (← e) (padded-set m d xs v (omega arith))

@@ -1,4 +1,4 @@
-pub mod Padded
+pub mod Filled
 pub mod Zeros
 pub mod Linked
 pub mod Every

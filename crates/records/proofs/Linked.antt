@@ -1,6 +1,6 @@
 -- Laws of chains: their records lie within the file, and a walk along a chain finds it.
 use mathlib.Core.Path.{_≡_, refl, sym, _∙_, ap, subst}
-use mathlib.Core.Bool.{Bool, true, false, _&&_, cond}
+use mathlib.Core.Bool.{Bool, true, false, _&&_, cond, and-eq-true-iff}
 use mathlib.Core.List.{List, [], _∷_, _++_}
 use mathlib.Core.Option.{Option, some, none}
 use Prim.Native.Nat.{ℕ, zero, suc, _+_, _-_, _*_, _<_, _≤_}
@@ -12,9 +12,10 @@ use borrow.Author.Tests.{eq-eqb, ne-eqb, leb-true}
 use Rattle.format.specs.Legal.{within}
 use Rattle.format.specs.File.{kindAt, nextAt, onto, chain}
 use Rattle.records.specs.declared.Chain.{Chain}
-use Rattle.records.specs.Padded.{padded}
+use Rattle.lists.specs.Padded.{padded}
 use Rattle.records.specs.Chain.{chainFound, Inside}
-use Rattle.records.proofs.Padded.{padded-none, padded-at, getD-padded, take-padded}
+use Rattle.lists.proofs.Cases.{and-left}
+use Rattle.lists.proofs.Padded.{padded-none, padded-first, padded-at, padded-put}
 
 -- n record numbers, each of them from 1 to count
 pub record Linked (count n : ℕ) (rs : List ℕ) : Type 0 where
@@ -48,14 +49,10 @@ step true r none rs e = never e
 step true r (some qs) rs e = record { test = refl; rest = qs; found = refl; same = cc }
 step false r o rs e = never e
 
-and-both : (a b : Bool) → (a && b) ≡ true → (a ≡ true) × (b ≡ true)
-and-both true b e = (refl, e)
-and-both false b e = absurd (let z : _≡_ {A = ℕ} (cond false 0 1) (cond true 0 1) = ap (λ t. cond t 0 1) e in omega arith)
-
 -- a record that is a link is from 1 to count
 pub link-bound : (file : List ℕ) (count kind r : ℕ) → (within 1 count r && eqb (kindAt file r) kind) ≡ true → (1 ≤ r) × (r ≤ count)
 link-bound file count kind r e =
-    let w = and-both (leb 1 r) (leb r count) (and-both (within 1 count r) (eqb (kindAt file r) kind) e .0) in
+    let w = and-eq-true-iff (leb 1 r) (leb r count) .0 (and-left (within 1 count r) (eqb (kindAt file r) kind) e) in
     (leb-true 1 r (w .0), leb-true r count (w .1))
 
 -- a chain that is found has n records, each from 1 to count
@@ -82,10 +79,10 @@ chain-inside file count kind n r rs h e = record { within = at }
     at i g =
         let l = linked file count kind n r rs e in
         let k : i < length rs = rw (l .long) g in
-        rw (getD-padded 64 0 0 rs i k) (omega (arith, l .member i g))
+        rw (padded-at 64 0 rs i 0 k) (omega (arith, l .member i g))
 
 pub chain-take : (file : List ℕ) (count kind n r : ℕ) (rs : List ℕ) → chain file count kind n r ≡ some rs → take n (padded 64 0 rs) ≡ rs
-chain-take file count kind n r rs e = take-padded 64 n 0 rs (chain-length file count kind n r rs e)
+chain-take file count kind n r rs e = padded-first 64 n 0 rs (chain-length file count kind n r rs e)
 
 -- what a chain's answer says of the chain
 pub chain-none : (o : Option (List ℕ)) (c : Chain) → c ≡ chainFound o → c .found ≡ false → o ≡ none
@@ -150,7 +147,7 @@ module _ (file : List ℕ) (count kind n first : ℕ) where
         record {
           met = w .met ++ r ∷ [];
           long = length-append (w .met) (r ∷ []) ∙ omega (arith, w .long);
-          kept = rw (w .kept) (padded-at 64 k 0 r (w .met) (w .long) (omega arith));
+          kept = rw (w .kept) (padded-put 64 k 0 r (w .met) (w .long) (omega arith));
           rest = w .rest ∙ rw (m, t, e) (ahead-snoc (w .met) r (chain file count kind (n - (k + 1)) (nextAt file r)));
         }
 

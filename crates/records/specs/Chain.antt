@@ -7,7 +7,7 @@ use lib.ListN.{length, getD, replicate}
 use lib.Dec.{eqb}
 use Rattle.format.specs.File.{nodeKind, transistorKind, nodeBlank, transistorBlank, entryBlank}
 use Rattle.records.specs.declared.Chain.{Chain}
-use Rattle.records.specs.Padded.{padded}
+use Rattle.lists.specs.Padded.{padded}
 
 -- a chain's record numbers in 64 places, or that there is no such chain
 unfoldable pub chainFound : Option (List ℕ) → Chain

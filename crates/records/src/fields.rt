@@ -14,7 +14,7 @@ ghost use Prim.Native.Nat.{_+_, _*_, _≤_};
 ghost use lib.ListN.{length, take};
 ghost use Rattle.format.specs.Circuit.{noNode, noTransistor, noEntry};
 ghost use Rattle.format.specs.File.{nodeAt, transistorAt, entryAt};
-ghost use Rattle.records.specs.Padded.{padded};
+ghost use Rattle.lists.specs.Padded.{padded};
 ghost use Rattle.records.specs.Chain.{Inside};
 
 pub fn node_at(file: &[u8], r: u32) -> Node

@@ -7,8 +7,8 @@ use lib.ListN.{take}
 use borrow.Author.Needs.{needs}
 use Rattle.format.specs.File.{entryAt}
 use Rattle.format.specs.Circuit.{noEntry}
-use Rattle.records.specs.Padded.{padded}
-use Rattle.records.proofs.Padded.{filled-none, filled-more, filled-done}
+use Rattle.lists.specs.Padded.{padded}
+use Rattle.records.proofs.Filled.{filled-none, filled-more, filled-done}
 use Rattle.records.proofs.fields.entries_at.Statement.{statement}
 use Rattle.records.proofs.fields.entries_at.Tie as tie
 

@@ -7,8 +7,8 @@ use lib.ListN.{take}
 use borrow.Author.Needs.{needs}
 use Rattle.format.specs.File.{nodeAt}
 use Rattle.format.specs.Circuit.{noNode}
-use Rattle.records.specs.Padded.{padded}
-use Rattle.records.proofs.Padded.{filled-none, filled-more, filled-done}
+use Rattle.lists.specs.Padded.{padded}
+use Rattle.records.proofs.Filled.{filled-none, filled-more, filled-done}
 use Rattle.records.proofs.fields.nodes_at.Statement.{statement}
 use Rattle.records.proofs.fields.nodes_at.Tie as tie
 
