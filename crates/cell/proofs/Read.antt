@@ -1,11 +1,11 @@
 -- The reader's answer by its tests, and the cell that it gives.
-use Prim.Native.Nat.{ℕ, _≤_}
+use Prim.Native.Nat.{ℕ, _≤_, _-_}
 use mathlib.Core.Path.{_≡_, refl, sym, ap, _∙_}
 use mathlib.Core.List.{List, [], _∷_, _++_, map}
 use mathlib.Core.Bool.{Bool, true, _&&_}
 use mathlib.Core.Option.{Option, none}
 use native.Mathlib.Omega.{arith}
-use lib.ListN.{length, take, length-map, length-take}
+use lib.ListN.{length, take, length-map, length-take, replicate}
 use lib.Seq.{length-take-le}
 use lib.Dec.{leb, eqb}
 use Rattle.refusal.specs.declared.Refusal.the-variants.{Length, Header, Chain, Record, Order}
@@ -18,13 +18,14 @@ use Rattle.format.specs.declared.Entry.{Entry}
 use Rattle.format.specs.Circuit.{Circuit, noNode, noTransistor, noEntry}
 use Rattle.format.specs.Legal.{mostNodes, mostTransistors, mostEntries, limitsKept, fieldsLegal, rising}
 use Rattle.format.specs.File.{recordSize, fileHeader, zeroBytes, headerLegal, recordCount, statedLength, nodeKind, transistorKind, entryKind, firstNode, firstTransistor, firstEntry, chain, nodeAt, transistorAt, entryAt, fileCircuit, readFields, readChains, readCell}
-use Rattle.records.specs.Padded.{padded}
+use Rattle.format.proofs.Every.{both-first}
+use Rattle.lists.specs.Padded.{padded}
 use Rattle.records.proofs.Linked.{Found, found-take}
 use Rattle.cell.specs.declared.Cell.{Cell}
 use Rattle.cell.specs.Value.{firsts, circuitOf, cellOf, reading}
 use Rattle.cell.specs.Counted.{Counted}
 use Rattle.cell.specs.Reader.{Full, blanksAt, circuitAt, fieldsAt}
-use Rattle.cell.proofs.Kept.{and-both, counted}
+use Rattle.cell.proofs.Kept.{counted}
 
 -- A cell's value states that cell.
 firsts-all : {A : Type 0} (d : A) (xs ys : List A) → firsts (length xs) d (xs ++ ys) ≡ xs
@@ -33,8 +34,7 @@ firsts-all d [] ys = refl
 firsts-all d (x ∷ xs) ys = ap (λ l. x ∷ l) (firsts-all d xs ys)
 
 firsts-padded : {A : Type 0} (m : ℕ) (d : A) (xs : List A) → firsts (length xs) d (padded m d xs) ≡ xs
-unfolding padded
-firsts-padded m d xs = firsts-all d xs _
+firsts-padded m d xs = firsts-all d xs (replicate (m - length xs) d)
 
 pub circuit-of-cell : (c : Circuit) → circuitOf (cellOf c) ≡ c
 unfolding circuitOf cellOf
@@ -138,4 +138,4 @@ read-by file p q r = rw (p, q, r)
 
 pub header-counted : (file : List ℕ) (h : header.Header) → h ≡ fileHeader file → headerLegal file ≡ true → Counted h
 unfolding headerLegal
-header-counted file h e p = rw e (counted (fileHeader file) (and-both (limitsKept (fileHeader file)) (zeroBytes file 2 14) p .0))
+header-counted file h e p = rw e (counted (fileHeader file) (both-first (limitsKept (fileHeader file)) (zeroBytes file 2 14) p))

@@ -7,7 +7,7 @@ use Rattle.refusal.specs.Answer.{Answer, refused, answered}
 use Rattle.units.specs.Units.{picoseconds}
 use Rattle.format.specs.Circuit.{Circuit, headerOf, noNode, noTransistor, noEntry}
 use Rattle.format.specs.Legal.{mostNodes, mostTransistors, mostEntries}
-use Rattle.records.specs.Padded.{padded}
+use Rattle.lists.specs.Padded.{padded}
 use Rattle.cell.specs.declared.Cell.{Cell}
 use Rattle.cell.specs.declared.Reading.{Reading}
 

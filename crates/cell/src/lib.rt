@@ -42,7 +42,7 @@ impl Cell {
 
     pub const MOST_HORIZON: u64 = 1000000;
 
-    pub const MOST_BYTES: usize = 16
+    pub const MOST_BYTES: usize = reader::RECORD_SIZE
         * (1 + Cell::MOST_NODES + Cell::MOST_TRANSISTORS + Cell::MOST_ENTRIES) as usize;
 
     // A cell handed over as a value: 2, then 4, then 5.
