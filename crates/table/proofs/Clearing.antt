@@ -1,0 +1,124 @@
+-- Clearing columns, and starting them anew.
+use mathlib.Core.Path.{_≡_, refl, sym, _∙_, ap}
+use mathlib.Core.Logic.{⊎-elim}
+use mathlib.Core.List.{List, [], _∷_, _++_, map}
+use mathlib.Core.Bool.{Bool, true, false}
+use Prim.Native.Nat.{ℕ, zero, suc, _+_, _-_, _<_, _≤_}
+use native.Mathlib.Omega.{arith}
+use lib.ListN.{length, getD, set, take, replicate, length-append, length-take, length-replicate, length-set, length-map, List·getD-append}
+use lib.Seq.{getD-set-same, getD-set-other, getD-take, getD-append-add, length-take-le, ext-getD}
+use Rattle.refusal.specs.declared.Reply.the-variants.{Done, Refused}
+use Rattle.refusal.specs.declared.Refusal.the-variants.{Buffer}
+use Rattle.refusal.specs.Answer.{Answer, answered, replyOf}
+use Rattle.lists.specs.Padded.{padded}
+use Rattle.lists.proofs.Cases.{lt-or-ge, eq-or-ne}
+use Rattle.lists.proofs.Padded.{replicate-read}
+use Rattle.lists.proofs.Map.{map-take}
+use Rattle.diagram.specs.Table.{Entry, Table, never, terminalLetter}
+use Rattle.diagram.specs.Store.{fresh}
+use Rattle.diagram.specs.Call.{Columns, lengthsLegal, rows, tableOf, columnsOf, freshCall, columnsAfter}
+use Rattle.diagram.proofs.Columns.{letterOf, lowOf, highOf, Lengths, lengths-record, rows-letter, rows-low, rows-high, columns-path}
+use Rattle.table.specs.Holds.{columns, Holds, Kept, zeroFrom}
+
+-- a column cleared from a place on as far as n
+pub record Clearing (from n : ℕ) (old new : List ℕ) : Type 0 where
+  pub long : length new ≡ length old
+  pub passed : from ≤ n
+  pub kept : (i : ℕ) → i < from → getD new i 0 ≡ getD old i 0
+  pub zeros : (i : ℕ) → from ≤ i → i < n → getD new i 0 ≡ 0
+
+pub clearing-none : (from : ℕ) (old : List ℕ) → Clearing from from old old
+clearing-none from old = record { long = refl; passed = omega arith; kept = λ i g. refl; zeros = λ i g k. absurd (omega arith) }
+
+pub clearing-next : {from n : ℕ} {old new : List ℕ} → Clearing from n old new → n < length new → Clearing from (n + 1) old (set new n 0)
+clearing-next {from} {n} {old} {new} c l =
+    let past : from ≤ n = c .passed in
+    record {
+      long = length-set new n 0 ∙ c .long;
+      passed = omega arith;
+      kept = λ i g. getD-set-other new n i 0 0 (omega arith) ∙ c .kept i g;
+      zeros = λ i g k.
+          ⊎-elim
+          (λ (s : i ≡ n). rw s (getD-set-same new n 0 0 l))
+          (λ (s : i ≡ n → ⊥). getD-set-other new n i 0 0 s ∙ c .zeros i g (omega arith))
+          (eq-or-ne i n);
+    }
+
+zeroFrom-length : (n : ℕ) (l : List ℕ) → length (zeroFrom n l) ≡ length l
+zeroFrom-length n l = simp (length-append, length-take, length-replicate) (omega arith)
+
+-- cleared to the end
+pub clearing-all : {from n : ℕ} {old new : List ℕ} → Clearing from n old new → length new ≤ n → new ≡ zeroFrom from old
+clearing-all {from} {n} {old} {new} c end =
+    ext-getD 0 new (zeroFrom from old) (c .long ∙ sym (zeroFrom-length from old)) (λ i l.
+    let there : length new ≡ length old = c .long in
+    ⊎-elim
+    (λ (g : i < from).
+    c .kept i g
+    ∙ sym (getD-take from old i 0 g)
+    ∙ sym (List·getD-append (take from old) (replicate (length old - from) 0) 0 i (omega (arith, length-take from old))))
+    (λ (g : from ≤ i).
+    let front : length (take from old) ≡ from = length-take-le from old (omega arith) in
+    let place : i ≡ length (take from old) + (i - from) = omega arith in
+    c .zeros i g (omega arith)
+    ∙ sym (ap (λ (j : ℕ). getD (zeroFrom from old) j 0) place ∙ getD-append-add (take from old) (replicate (length old - from) 0) (i - from) 0 ∙ replicate-read (length old - from) (i - from) 0))
+    (lt-or-ge i from))
+
+-- columns in which a table still stands, cleared from its end on, are its columns
+module _ {l w h : List ℕ} {size : ℕ} {t : Table} (k : Kept l w h size t) where
+  p : length w ≡ length l
+  p = omega (arith, k .letter-long, k .low-long)
+
+  q : length h ≡ length l
+  q = omega (arith, k .letter-long, k .high-long)
+
+  column : (f : Entry → ℕ) (v : List ℕ) → map f (rows (columns l w h)) ≡ v → length v ≡ size → zeroFrom (length t) v ≡ padded size 0 (map f t)
+  column f v e long =
+      let front : take (length t) v ≡ map f t = ap (take (length t)) (sym e) ∙ sym (map-take f (length t) (rows (columns l w h))) ∙ ap (map f) (k .table) in
+      let n : length (map f t) ≡ length t = length-map t f in
+      rw (front, long, n)
+
+  pub kept-cleared : columns (zeroFrom (length t) l) (zeroFrom (length t) w) (zeroFrom (length t) h) ≡ columnsOf size t
+  unfolding columnsOf
+  kept-cleared =
+      columns-path _ _
+      (column letterOf l (rows-letter (columns l w h) p q) (k .letter-long))
+      (column lowOf w (rows-low (columns l w h) p q) (k .low-long))
+      (column highOf h (rows-high (columns l w h) p q) (k .high-long))
+
+-- after a refusal: the columns cleared from the used count on are those that held the table
+pub kept-restored : {l w h l₀ w₀ h₀ ix : List ℕ} {t : Table} {used : ℕ} → Holds l₀ w₀ h₀ ix t used → Kept l w h (length l₀) t
+    → columns (zeroFrom used l) (zeroFrom used w) (zeroFrom used h) ≡ columns l₀ w₀ h₀
+kept-restored s k = rw (s .long) (kept-cleared k ∙ sym (s .is))
+
+-- three numbers, then zeros
+pub begun : (v : List ℕ) (a b c : ℕ) → 3 ≤ length v → set (set (set (zeroFrom 3 v) 0 a) 1 b) 2 c ≡ padded (length v) 0 (a ∷ b ∷ c ∷ [])
+begun [] a b c l = absurd (omega arith)
+begun (x ∷ []) a b c l = absurd (omega arith)
+begun (x ∷ y ∷ []) a b c l = absurd (omega arith)
+begun (x ∷ y ∷ z ∷ v) a b c l = refl
+
+-- the fresh table, refused and answered
+module _ (l w h : List ℕ) where
+  pub legal-three : lengthsLegal (columns l w h) ≡ true → (3 ≤ length l) × (3 ≤ length w) × (3 ≤ length h)
+  legal-three e = let long : Lengths (columns l w h) = lengths-record (columns l w h) e in omega arith
+
+  pub fresh-refused : lengthsLegal (columns l w h) ≡ false
+      → (Refused Buffer ≡ replyOf (freshCall (columns l w h))) × (columns l w h ≡ columnsAfter (columns l w h) (freshCall (columns l w h)))
+  unfolding freshCall columnsAfter
+  fresh-refused e = rw e (refl, refl)
+
+  pub fresh-done : lengthsLegal (columns l w h) ≡ true → (l′ w′ h′ : List ℕ)
+      → l′ ≡ padded (length l) 0 (4294967295 ∷ 4294967295 ∷ 4294967295 ∷ [])
+      → w′ ≡ padded (length w) 0 (0 ∷ 1 ∷ 4294967295 ∷ [])
+      → h′ ≡ padded (length h) 0 (0 ∷ 0 ∷ 0 ∷ [])
+      → (Done ≡ replyOf (freshCall (columns l w h))) × (columns l′ w′ h′ ≡ columnsAfter (columns l w h) (freshCall (columns l w h)))
+  unfolding freshCall columnsAfter columnsOf
+  fresh-done e l′ w′ h′ x y z =
+      let long : Lengths (columns l w h) = lengths-record (columns l w h) e in
+      rw e (
+        refl,
+        columns-path _ _ x
+            (y ∙ ap (λ (n : ℕ). padded n 0 (0 ∷ 1 ∷ 4294967295 ∷ [])) (long .low-long))
+            (z ∙ ap (λ (n : ℕ). padded n 0 (0 ∷ 0 ∷ 0 ∷ [])) (long .high-long)),
+      )

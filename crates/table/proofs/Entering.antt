@@ -1,0 +1,95 @@
+-- One row more in the index.
+use mathlib.Core.Path.{_≡_, refl, sym, _∙_, ap, subst}
+use mathlib.Core.List.{List}
+use mathlib.Core.Bool.{Bool, true, false, true≢false}
+use Prim.Native.Nat.{ℕ, suc, _+_, _*_, _/_, _<_, _≤_}
+use native.Mathlib.Numerals.{add-one}
+use native.Mathlib.Omega.{arith}
+use lib.ListN.{length, getD, set, length-set}
+use lib.Seq.{getD-set-same, getD-set-other}
+use Rattle.diagram.specs.Table.{Entry, Table, branch, entryAt}
+use Rattle.diagram.specs.Call.{Columns, rows}
+use Rattle.diagram.proofs.Sound.{entry-path}
+use Rattle.diagram.proofs.Columns.{rows-at}
+use Rattle.table.specs.Index.{bucket, Indexed, linked}
+use Rattle.table.specs.Holds.{columns, Sized, Ready, Sought, Empty}
+use Rattle.table.specs.Steps.{Entered}
+use Rattle.table.proofs.Index.{indexed-none, indexed-agree, indexed-next}
+
+-- an empty index is that of no rows
+pub ready-none : {l w h ix : List ℕ} → Sized l w h ix → Empty ix → Ready l w h ix 0
+ready-none {l} {w} {h} {ix} s e = record { sized = s; fits = omega arith; index = indexed-none (length ix / 2) (rows (columns l w h)) ix e }
+
+-- a row that is linked at the head of its bucket
+pub ready-link : (l w h ix : List ℕ) (used : ℕ) → Ready l w h ix used → used < length l → (head : ℕ) → bucket (length ix / 2) (entryAt (rows (columns l w h)) used) ≡ head → head < length ix / 2
+    → Ready l w h (linked (length ix / 2) ix head used) (used + 1)
+ready-link l w h ix used s room head own small =
+    let half : ℕ = length ix / 2 in
+    let z : Sized l w h ix = s .sized in
+    let long : length (linked half ix head used) ≡ length ix =
+    length-set (set ix (half + used) (getD ix head 0)) head (used + 1) ∙ length-set ix (half + used) (getD ix head 0) in
+    let halves : length (linked half ix head used) / 2 ≡ length ix / 2 = ap (λ (n : ℕ). n / 2) long in
+    record {
+      sized = record { least = omega arith; most = omega arith; low-long = omega arith; high-long = omega arith; even = omega arith; room = omega arith };
+      fits = omega arith;
+      index =
+          rw halves
+          (subst (λ (n : ℕ). Indexed (length ix / 2) (rows (columns l w h)) n (linked (length ix / 2) ix head used)) (sym (add-one used))
+          (indexed-next (length ix / 2) (rows (columns l w h)) used ix (s .index) (omega arith) head own small));
+    }
+
+-- an entry written at the used count
+module _ (l w h ix : List ℕ) (used : ℕ) (s : Ready l w h ix used) (k a b : ℕ) (room : used < length l) where
+  low-long : length (set w used a) ≡ length (set l used k)
+  low-long = length-set w used a ∙ s .sized .low-long ∙ sym (length-set l used k)
+
+  high-long : length (set h used b) ≡ length (set l used k)
+  high-long = length-set h used b ∙ s .sized .high-long ∙ sym (length-set l used k)
+
+  row-before : (i : ℕ) → i < used → entryAt (rows (columns l w h)) i ≡ entryAt (rows (columns (set l used k) (set w used a) (set h used b))) i
+  row-before i g =
+      rows-at (columns l w h) (s .sized .low-long) (s .sized .high-long) i
+      ∙ entry-path _ _ (sym (getD-set-other l used i k 0 (omega arith))) (sym (getD-set-other w used i a 0 (omega arith))) (sym (getD-set-other h used i b 0 (omega arith)))
+      ∙ sym (rows-at (columns (set l used k) (set w used a) (set h used b)) low-long high-long i)
+
+  row-new : entryAt (rows (columns (set l used k) (set w used a) (set h used b))) used ≡ branch k a b
+  row-new =
+      rows-at (columns (set l used k) (set w used a) (set h used b)) low-long high-long used
+      ∙ entry-path _ _ (getD-set-same l used k 0 room) (getD-set-same w used a 0 (omega (arith, s .sized .low-long))) (getD-set-same h used b 0 (omega (arith, s .sized .high-long)))
+
+  ready-set : Ready (set l used k) (set w used a) (set h used b) ix used
+  ready-set =
+      let z : Sized l w h ix = s .sized in
+      let long : length (set l used k) ≡ length l = length-set l used k in
+      record {
+        sized = record { least = omega arith; most = omega arith; low-long = low-long; high-long = high-long; even = z .even; room = omega arith };
+        fits = omega arith;
+        index = indexed-agree row-before (s .index);
+      }
+
+  pub ready-write : (head : ℕ) → head ≡ bucket (length ix / 2) (branch k a b) → head < length ix / 2
+      → Ready (set l used k) (set w used a) (set h used b) (linked (length ix / 2) ix head used) (used + 1)
+  ready-write head own small =
+      ready-link (set l used k) (set w used a) (set h used b) ix used ready-set (omega (arith, length-set l used k)) head (ap (bucket (length ix / 2)) row-new ∙ sym own) small
+
+-- a row that is searched for before it is linked
+module _ (l w h ix : List ℕ) (at : ℕ) (s : Ready l w h ix at) (r : ℕ) (f : Sought (rows (columns l w h)) at (branch (getD l at 0) (getD w at 0) (getD h at 0)) r) where
+  row : entryAt (rows (columns l w h)) at ≡ branch (getD l at 0) (getD w at 0) (getD h at 0)
+  row = rows-at (columns l w h) (s .sized .low-long) (s .sized .high-long) at
+
+  pub entered-twin : (ix′ : List ℕ) → r < at → Entered l w h ix′ at false
+  entered-twin ix′ there = record {
+    ready = λ z. absurd (true≢false (sym z));
+    new = λ z. absurd (true≢false (sym z));
+    twin = λ z. (r, there, f .there there ∙ sym row);
+  }
+
+  pub entered-new : at < length l → at ≤ r → (head : ℕ) → head ≡ bucket (length ix / 2) (branch (getD l at 0) (getD w at 0) (getD h at 0)) → head < length ix / 2
+      → Entered l w h (linked (length ix / 2) ix head at) at true
+  entered-new room out head own small =
+      let same : r ≡ at = omega (arith, f .within) in
+      record {
+        ready = λ z. ready-link l w h ix at s room head (ap (bucket (length ix / 2)) row ∙ sym own) small;
+        new = λ z j g e. f .missing same j g (e ∙ row);
+        twin = λ z. absurd (true≢false z);
+      }

@@ -1,0 +1,206 @@
+-- Columns that hold a table: finding in them, adding to them, and what callers carry on.
+use mathlib.Core.Path.{_≡_, refl, sym, _∙_, ap, subst}
+use mathlib.Core.Logic.{⊎-elim}
+use mathlib.Core.List.{List, [], _∷_, _++_}
+use mathlib.Core.Bool.{Bool, true, false, true≢false}
+use Prim.Native.Nat.{ℕ, suc, _+_, _*_, _/_, _<_, _≤_}
+use native.Mathlib.Omega.{arith}
+use lib.ListN.{length, getD, set, take, length-append, length-set}
+use lib.Seq.{getD-take, take-take}
+use lib.Dec.{ltb}
+use borrow.Author.Tests.{lt-ltb, le-ltb, ltb-true, ltb-false}
+use Rattle.lists.proofs.Cases.{lt-or-ge, true-false}
+use Rattle.diagram.specs.Table.{Entry, Table, blank, branch, entryAt}
+use Rattle.diagram.specs.Sound.{distinct}
+use Rattle.diagram.specs.Store.{Stored, stored, find, add}
+use Rattle.diagram.specs.Call.{Columns, rows, tableOf, columnsOf}
+use Rattle.diagram.proofs.Sound.{entry-path, distinct-apart, apart-distinct}
+use Rattle.diagram.proofs.Add.{Extends, extends-refl, extends-append, extends-take, find-is, find-missing, find-cases, add-found, add-missing, Added, added}
+use Rattle.diagram.proofs.Columns.{rows-at, table-length, table-columns, columns-path, columns-letter-at, columns-low-at, columns-high-at, columns-letter-set, columns-low-set, columns-high-set}
+use Rattle.table.specs.declared.Put.{Put}
+use Rattle.table.specs.Index.{bucket, Indexed, linked}
+use Rattle.table.specs.Holds.{columns, Sized, Ready, Holds, Kept, Outcome, Sought}
+use Rattle.table.proofs.Entering.{ready-write}
+
+abbrev pub put : Bool → ℕ → ℕ → Put
+put f e u = record { full = f; entry = e; used = u }
+
+-- among rows that differ, what a search finds is the first place
+pub sought-find : (c : Columns) (used : ℕ) (x : Entry) (r : ℕ) → length (c .low) ≡ length (c .letter) → length (c .high) ≡ length (c .letter) → used ≤ length (c .letter)
+    → distinct (tableOf c used) ≡ true → Sought (rows c) used x r → r ≡ find x (tableOf c used)
+sought-find c used x r p q fits apart s =
+    let t : Table = tableOf c used in
+    let long : length t ≡ used = table-length c p q used fits in
+    ⊎-elim
+    (λ (l : r < used).
+    sym (find-is x t r (omega arith) (getD-take used (rows c) r blank l ∙ s .there l) (λ j g e.
+    let z : r ≡ j = distinct-apart t apart r j (omega arith) (omega arith) (getD-take used (rows c) r blank l ∙ s .there l ∙ sym e) in omega arith)))
+    (λ (l : used ≤ r).
+    let z : r ≡ used = omega (arith, s .within) in
+    z ∙ sym long ∙ sym (find-missing x t (λ i g e. let h : i < used = omega arith in s .missing z i h (sym (getD-take used (rows c) i blank h) ∙ e))))
+    (lt-or-ge r used)
+
+module _ {l w h ix : List ℕ} {t : Table} {used : ℕ} (s : Holds l w h ix t used) where
+  pub holds-fits : length t ≤ length l
+  holds-fits = omega (arith, s .ready .fits, s .long)
+
+  -- the columns hold the table
+  pub holds-table : tableOf (columns l w h) used ≡ t
+  holds-table = ap (tableOf (columns l w h)) (s .long) ∙ ap (λ (c : Columns). tableOf c (length t)) (s .is) ∙ table-columns (length l) t holds-fits
+
+  -- and each table that it extends
+  pub holds-kept : {u : Table} → Extends u t → Kept l w h (length l) u
+  holds-kept {u} e = record {
+    letter-long = refl;
+    low-long = s .ready .sized .low-long;
+    high-long = s .ready .sized .high-long;
+    fits = omega (arith, e .longer, holds-fits);
+    table =
+        sym (take-take (length u) used (rows (columns l w h)) (omega (arith, e .longer, s .long)))
+        ∙ ap (take (length u)) holds-table
+        ∙ extends-take u t e;
+  }
+
+  -- what a call asks of the table in the columns
+  pub holds-again : Holds l w h ix (tableOf (columns l w h) used) used
+  holds-again = rw holds-table s
+
+  -- the numbers of an entry
+  pub holds-letter : (i : ℕ) → getD l i 0 ≡ entryAt t i .letter
+  holds-letter i = ap (λ (c : Columns). getD (c .letter) i 0) (s .is) ∙ columns-letter-at (length l) t i
+
+  pub holds-low : (i : ℕ) → getD w i 0 ≡ entryAt t i .low
+  holds-low i = ap (λ (c : Columns). getD (c .low) i 0) (s .is) ∙ columns-low-at (length l) t i
+
+  pub holds-high : (i : ℕ) → getD h i 0 ≡ entryAt t i .high
+  holds-high i = ap (λ (c : Columns). getD (c .high) i 0) (s .is) ∙ columns-high-at (length l) t i
+
+  -- an entry that is there needs no storing
+  pub outcome-there : (e : ℕ) → Outcome t (stored t e) l w h ix (put false e used)
+  outcome-there e = record {
+    full = sym (le-ltb (length l) (length t) holds-fits);
+    entry = λ _. refl;
+    holds = λ _. s;
+    kept = holds-kept (extends-refl t);
+  }
+
+-- entries that still stand, of a table and of one that it extends
+pub kept-extends : {l w h : List ℕ} {size : ℕ} {t u : Table} → Extends t u → Kept l w h size u → Kept l w h size t
+kept-extends {l} {w} {h} {size} {t} {u} e k = record {
+  letter-long = k .letter-long;
+  low-long = k .low-long;
+  high-long = k .high-long;
+  fits = omega (arith, e .longer, k .fits);
+  table =
+      sym (take-take (length t) (length u) (rows (columns l w h)) (e .longer))
+      ∙ ap (take (length t)) (k .table)
+      ∙ extends-take t u e;
+}
+
+module _ {t : Table} {s : Stored} {l w h ix : List ℕ} {r : Put} (o : Outcome t s l w h ix r) where
+  -- what was stored fits, or it does not
+  pub outcome-fits : r .full ≡ false → length (s .table) ≤ length l
+  outcome-fits e = ltb-false (length l) (length (s .table)) (sym (o .full) ∙ e)
+
+  pub outcome-over : r .full ≡ true → length l < length (s .table)
+  outcome-over e = ltb-true (length l) (length (s .table)) (sym (o .full) ∙ e)
+
+  -- a later step's outcome is one of the whole
+  pub outcome-extends : {v : Table} → Extends v t → Outcome v s l w h ix r
+  outcome-extends e = record { full = o .full; entry = o .entry; holds = o .holds; kept = kept-extends e (o .kept) }
+
+  -- where a part does not fit, the whole does not
+  pub outcome-stops : (v : Stored) → r .full ≡ true → length (s .table) ≤ length (v .table) → Outcome t v l w h ix r
+  outcome-stops v e le = record {
+    full = e ∙ sym (lt-ltb (length l) (length (v .table)) (omega (arith, outcome-over e)));
+    entry = λ z. true-false (r .full) e z;
+    holds = λ z. true-false (r .full) e z;
+    kept = o .kept;
+  }
+
+-- a new entry differs from the others
+distinct-append : (t : Table) (x : Entry) → distinct t ≡ true → ((i : ℕ) → i < length t → entryAt t i ≡ x → ⊥) → distinct (t ++ x ∷ []) ≡ true
+distinct-append t x d none =
+    let u : Table = t ++ x ∷ [] in
+    let a : Added x t (stored u (length t)) = subst (Added x t) (add-missing x t none) (added x t) in
+    let e : Extends t u = a .extends in
+    apart-distinct u (λ i j hi hj q.
+    ⊎-elim
+    (λ (gi : i < length t).
+    ⊎-elim
+    (λ (gj : j < length t). distinct-apart t d i j gi gj (sym (e .kept i gi) ∙ q ∙ e .kept j gj))
+    (λ (gj : length t ≤ j).
+    let z : j ≡ length t = omega (arith, a .longest) in
+    absurd (none i gi (sym (e .kept i gi) ∙ q ∙ ap (entryAt u) z ∙ a .holds)))
+    (lt-or-ge j (length t)))
+    (λ (gi : length t ≤ i).
+    let z : i ≡ length t = omega (arith, a .longest) in
+    ⊎-elim
+    (λ (gj : j < length t). absurd (none j gj (sym (e .kept j gj) ∙ sym q ∙ ap (entryAt u) z ∙ a .holds)))
+    (λ (gj : length t ≤ j). omega (arith, a .longest))
+    (lt-or-ge j (length t)))
+    (lt-or-ge i (length t)))
+
+module _ {l w h ix : List ℕ} {t : Table} {used : ℕ} (s : Holds l w h ix t used) (x : Entry) where
+  -- what is there is found
+  pub outcome-found : (at : ℕ) → at ≡ find x t → at < used → Outcome t (add x t) l w h ix (put false at used)
+  outcome-found at e there =
+      rw (add-found x t (omega (arith, s .long)))
+      record {
+        full = sym (le-ltb (length l) (length t) (holds-fits s));
+        entry = λ _. e;
+        holds = λ _. s;
+        kept = holds-kept s (extends-refl t);
+      }
+
+  nowhere : (at : ℕ) → at ≡ find x t → used ≤ at → (i : ℕ) → i < length t → entryAt t i ≡ x → ⊥
+  nowhere at e out =
+      ⊎-elim
+      (λ (g : find x t < length t). absurd (omega (arith, s .long)))
+      (λ (none : (i : ℕ) → i < length t → entryAt t i ≡ x → ⊥). none)
+      (find-cases x t)
+
+  -- what is not has no room
+  pub outcome-full : (at entry : ℕ) → at ≡ find x t → used ≤ at → length l ≤ used → Outcome t (add x t) l w h ix (put true entry used)
+  outcome-full at entry e out full =
+      rw (add-missing x t (nowhere at e out))
+      record {
+        full = sym (lt-ltb (length l) (length (t ++ x ∷ [])) (simp length-append (omega (arith, s .long))));
+        entry = λ z. absurd (true≢false z);
+        holds = λ z. absurd (true≢false z);
+        kept = holds-kept s (extends-refl t);
+      }
+
+-- or is added
+module _ {l w h ix : List ℕ} {t : Table} {used : ℕ} (s : Holds l w h ix t used) (k a b : ℕ) where
+  abbrev x : Entry
+  x = branch k a b
+
+  holds-next : used < length l → ((i : ℕ) → i < length t → entryAt t i ≡ x → ⊥) → (head : ℕ) → head ≡ bucket (length ix / 2) x → head < length ix / 2
+      → Holds (set l used k) (set w used a) (set h used b) (linked (length ix / 2) ix head used) (t ++ x ∷ []) (used + 1)
+  holds-next room none head own small = record {
+    ready = ready-write l w h ix used (s .ready) k a b room head own small;
+    is =
+        let size : length (set l used k) ≡ length l = length-set l used k in
+        let here : used ≡ length t = s .long in
+        rw (size, here)
+        (columns-path _ _
+        (ap (λ (c : Columns). set (c .letter) (length t) k) (s .is) ∙ columns-letter-set (length l) t x (omega arith))
+        (ap (λ (c : Columns). set (c .low) (length t) a) (s .is) ∙ columns-low-set (length l) t x (omega arith))
+        (ap (λ (c : Columns). set (c .high) (length t) b) (s .is) ∙ columns-high-set (length l) t x (omega arith)));
+    long = simp length-append (omega (arith, s .long));
+    apart = distinct-append t x (s .apart) none;
+  }
+
+  pub outcome-new : (at head : ℕ) → at ≡ find x t → used ≤ at → used < length l → head ≡ bucket (length ix / 2) x → head < length ix / 2
+      → Outcome t (add x t) (set l used k) (set w used a) (set h used b) (linked (length ix / 2) ix head used) (put false used (used + 1))
+  outcome-new at head e out room own small =
+      let none : (i : ℕ) → i < length t → entryAt t i ≡ x → ⊥ = nowhere s x at e out in
+      let z : Holds (set l used k) (set w used a) (set h used b) (linked (length ix / 2) ix head used) (t ++ x ∷ []) (used + 1) = holds-next room none head own small in
+      rw (add-missing x t none)
+      record {
+        full = sym (le-ltb (length (set l used k)) (length (t ++ x ∷ [])) (holds-fits z));
+        entry = λ _. s .long;
+        holds = λ _. z;
+        kept = holds-kept z (extends-append t (x ∷ []));
+      }
