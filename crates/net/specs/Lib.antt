@@ -1,1 +1,3 @@
 pub mod Net
+pub mod Laid
+pub mod Written

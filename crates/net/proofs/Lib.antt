@@ -1,0 +1,6 @@
+pub mod Only
+pub mod Rows
+pub mod Laying
+pub mod Listed
+pub mod Joins
+pub mod Whole
