@@ -11,3 +11,4 @@ pub mod Calls
 pub mod Count
 pub mod Sum
 pub mod Values
+pub mod Shannon

@@ -1,0 +1,6 @@
+pub mod Carry
+pub mod Halving
+pub mod Applying
+pub mod Choosing
+pub mod Fixing
+pub mod Reading

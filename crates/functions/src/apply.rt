@@ -1,0 +1,94 @@
+// The operations on two functions that act number by number: one recursion for all.
+ghost use mathlib.Core.Path.{_≡_};
+ghost use Prim.Native.Nat.{_<_};
+ghost use lib.ListN.{length, getD};
+ghost use Rattle.diagram.specs.Table.{terminal};
+ghost use Rattle.diagram.specs.Store.{add as addOf, store};
+ghost use Rattle.diagram.specs.Operation.{apply as applyOf, applied};
+ghost use Rattle.diagram.specs.Call.{tableOf};
+ghost use Rattle.table.specs.Holds.{columns, Holds, Outcome};
+ghost use Rattle.functions.specs.Open.{Open, Operand};
+use crate::numbers::TERMINAL;
+use crate::numbers::apply_numbers;
+use crate::step::first_letter;
+use crate::step::join;
+use crate::step::parts;
+use diagram::Operation;
+use table::Put;
+
+// Two terminals: the terminal of the operation's number.
+fn leaf(
+    letter: &mut [u32],
+    low: &mut [u32],
+    high: &mut [u32],
+    index: &mut [u32],
+    used: u32,
+    o: Operation,
+    a: u32,
+    b: u32,
+) -> Put
+    requires { ⌜ (a < length (now low)) × (b < length (now low)) ⌝ }
+    requires { ⌜ Holds (now letter) (now low) (now high) (now index) (tableOf (columns (now letter) (now low) (now high)) used) used ⌝ }
+    ensures { λ r. ⌜ Outcome (tableOf (columns (now (letter .entry)) (now (low .entry)) (now (high .entry))) used) (addOf (terminal (applyOf o (getD (now (low .entry)) a 0) (getD (now (low .entry)) b 0))) (tableOf (columns (now (letter .entry)) (now (low .entry)) (now (high .entry))) used)) (now (letter .exit)) (now (low .exit)) (now (high .exit)) (now (index .exit)) r ⌝ }
+{
+    let i = a as usize;
+    let j = b as usize;
+    let v = apply_numbers(o, low[i], low[j]);
+    table::add(letter, low, high, index, used, TERMINAL, v, 0)
+}
+
+// The operation on entries `a` and `b`, whose letters are among the last `left` of the k.
+pub fn apply(
+    letter: &mut [u32],
+    low: &mut [u32],
+    high: &mut [u32],
+    index: &mut [u32],
+    used: u32,
+    k: u32,
+    o: Operation,
+    a: u32,
+    b: u32,
+    left: u32,
+) -> Put
+    requires { ⌜ Open k (now letter) (now low) (now high) (now index) used ⌝ }
+    requires { ⌜ Operand k (tableOf (columns (now letter) (now low) (now high)) used) used left a × Operand k (tableOf (columns (now letter) (now low) (now high)) used) used left b ⌝ }
+    ensures { λ r. ⌜ Outcome (tableOf (columns (now (letter .entry)) (now (low .entry)) (now (high .entry))) used) (store k 0 (applied k (tableOf (columns (now (letter .entry)) (now (low .entry)) (now (high .entry))) used) o a b) (tableOf (columns (now (letter .entry)) (now (low .entry)) (now (high .entry))) used)) (now (letter .exit)) (now (low .exit)) (now (high .exit)) (now (index .exit)) r ⌝ }
+{
+    let m = first_letter(letter, a, b);
+    if m == TERMINAL {
+        return leaf(letter, low, high, index, used, o, a, b);
+    }
+    let pa = parts(letter, low, high, m, a);
+    let pb = parts(letter, low, high, m, b);
+    let p = apply(
+        letter,
+        low,
+        high,
+        index,
+        used,
+        k,
+        o,
+        pa.low,
+        pb.low,
+        left - 1,
+    );
+    if p.full {
+        return p;
+    }
+    let q = apply(
+        letter,
+        low,
+        high,
+        index,
+        p.used,
+        k,
+        o,
+        pa.high,
+        pb.high,
+        left - 1,
+    );
+    if q.full {
+        return q;
+    }
+    join(letter, low, high, index, q.used, m, p.entry, q.entry)
+}

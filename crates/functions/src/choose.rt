@@ -1,0 +1,99 @@
+// Choose: the first function where the selector is 1, else the second.
+ghost use mathlib.Core.Path.{_≡_};
+ghost use mathlib.Core.Bool.{cond};
+ghost use Prim.Native.Nat.{_<_, min};
+ghost use lib.ListN.{length, getD};
+ghost use lib.Dec.{eqb};
+ghost use Rattle.diagram.specs.Store.{store};
+ghost use Rattle.diagram.specs.Operation.{chosen};
+ghost use Rattle.diagram.specs.Call.{tableOf};
+ghost use Rattle.table.specs.Holds.{columns, Outcome};
+ghost use Rattle.functions.specs.Open.{Open, Operand};
+use crate::numbers::TERMINAL;
+use crate::numbers::least;
+use crate::step::first_letter;
+use crate::step::join;
+use crate::step::parts;
+use table::Put;
+
+// The least letter of three entries.
+fn first_of(letter: &[u32], s: u32, a: u32, b: u32) -> u32
+    requires { ⌜ (s < length (now letter)) × (a < length (now letter)) × (b < length (now letter)) ⌝ }
+    ensures { λ r. ⌜ r ≡ min (getD (now (letter .entry)) s 0) (min (getD (now (letter .entry)) a 0) (getD (now (letter .entry)) b 0)) ⌝ }
+{
+    let i = s as usize;
+    let m = first_letter(letter, a, b);
+    least(letter[i], m)
+}
+
+// The choice by a terminal.
+fn by_terminal(low: &[u32], s: u32, a: u32, b: u32) -> u32
+    requires { ⌜ s < length (now low) ⌝ }
+    ensures { λ r. ⌜ r ≡ cond (eqb (getD (now (low .entry)) s 0) 1) a b ⌝ }
+{
+    let i = s as usize;
+    if low[i] == 1 { a } else { b }
+}
+
+// The choice by selector `s` of entries `a` and `b`, all with letters among the last `left` of the k.
+pub fn choose(
+    letter: &mut [u32],
+    low: &mut [u32],
+    high: &mut [u32],
+    index: &mut [u32],
+    used: u32,
+    k: u32,
+    s: u32,
+    a: u32,
+    b: u32,
+    left: u32,
+) -> Put
+    requires { ⌜ Open k (now letter) (now low) (now high) (now index) used ⌝ }
+    requires { ⌜ Operand k (tableOf (columns (now letter) (now low) (now high)) used) used left s × Operand k (tableOf (columns (now letter) (now low) (now high)) used) used left a × Operand k (tableOf (columns (now letter) (now low) (now high)) used) used left b ⌝ }
+    ensures { λ r. ⌜ Outcome (tableOf (columns (now (letter .entry)) (now (low .entry)) (now (high .entry))) used) (store k 0 (chosen k (tableOf (columns (now (letter .entry)) (now (low .entry)) (now (high .entry))) used) s a b) (tableOf (columns (now (letter .entry)) (now (low .entry)) (now (high .entry))) used)) (now (letter .exit)) (now (low .exit)) (now (high .exit)) (now (index .exit)) r ⌝ }
+{
+    let i = s as usize;
+    if letter[i] == TERMINAL {
+        let e = by_terminal(low, s, a, b);
+        return Put {
+            full: false,
+            entry: e,
+            used,
+        };
+    }
+    let m = first_of(letter, s, a, b);
+    let ps = parts(letter, low, high, m, s);
+    let pa = parts(letter, low, high, m, a);
+    let pb = parts(letter, low, high, m, b);
+    let p = choose(
+        letter,
+        low,
+        high,
+        index,
+        used,
+        k,
+        ps.low,
+        pa.low,
+        pb.low,
+        left - 1,
+    );
+    if p.full {
+        return p;
+    }
+    let q = choose(
+        letter,
+        low,
+        high,
+        index,
+        p.used,
+        k,
+        ps.high,
+        pa.high,
+        pb.high,
+        left - 1,
+    );
+    if q.full {
+        return q;
+    }
+    join(letter, low, high, index, q.used, m, p.entry, q.entry)
+}

@@ -1,0 +1,78 @@
+// A letter fixed at 0 or 1.
+ghost use mathlib.Core.Path.{_≡_};
+ghost use mathlib.Core.Bool.{cond};
+ghost use Prim.Native.Nat.{_<_, _≤_};
+ghost use lib.Dec.{eqb};
+ghost use Rattle.diagram.specs.Store.{store};
+ghost use Rattle.diagram.specs.Operation.{letterFixed};
+ghost use Rattle.diagram.specs.Call.{tableOf};
+ghost use Rattle.table.specs.Holds.{columns, Outcome};
+ghost use Rattle.functions.specs.Open.{Open, Operand};
+use crate::step::Halves;
+use crate::step::join;
+use crate::step::parts;
+use table::Put;
+
+// One of two parts, by a bit.
+fn side(h: Halves, bit: u32) -> u32
+    ensures { λ r. ⌜ r ≡ cond (eqb bit 1) (h .high) (h .low) ⌝ }
+{
+    if bit == 1 { h.high } else { h.low }
+}
+
+// Entry `e`, with letters among the last `left` of the k, with letter `j` at a bit.
+pub fn fix(
+    letter: &mut [u32],
+    low: &mut [u32],
+    high: &mut [u32],
+    index: &mut [u32],
+    used: u32,
+    k: u32,
+    e: u32,
+    j: u32,
+    bit: u32,
+    left: u32,
+) -> Put
+    requires { ⌜ Open k (now letter) (now low) (now high) (now index) used ⌝ }
+    requires { ⌜ Operand k (tableOf (columns (now letter) (now low) (now high)) used) used left e × (j < k) × (bit ≤ 1) ⌝ }
+    ensures { λ r. ⌜ Outcome (tableOf (columns (now (letter .entry)) (now (low .entry)) (now (high .entry))) used) (store k 0 (letterFixed k (tableOf (columns (now (letter .entry)) (now (low .entry)) (now (high .entry))) used) e j bit) (tableOf (columns (now (letter .entry)) (now (low .entry)) (now (high .entry))) used)) (now (letter .exit)) (now (low .exit)) (now (high .exit)) (now (index .exit)) r ⌝ }
+{
+    let i = e as usize;
+    let m = letter[i];
+    if j < m {
+        return Put {
+            full: false,
+            entry: e,
+            used,
+        };
+    }
+    let h = parts(letter, low, high, m, e);
+    if m == j {
+        let part = side(h, bit);
+        return Put {
+            full: false,
+            entry: part,
+            used,
+        };
+    }
+    let p = fix(letter, low, high, index, used, k, h.low, j, bit, left - 1);
+    if p.full {
+        return p;
+    }
+    let q = fix(
+        letter,
+        low,
+        high,
+        index,
+        p.used,
+        k,
+        h.high,
+        j,
+        bit,
+        left - 1,
+    );
+    if q.full {
+        return q;
+    }
+    join(letter, low, high, index, q.used, m, p.entry, q.entry)
+}
