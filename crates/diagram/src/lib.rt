@@ -2,8 +2,9 @@
 // "Functions of the letters"); no functions of the language.
 // specs/ has what a reader must believe: Pattern, Table, Sound, Store, Operation, Call; proofs/ the laws that others cite.
 
-// The operations on two functions that act number by number.
+// The operations on two functions that act number by number. Flip turns a bit where the second number is a given one.
 pub enum Operation {
     Smaller,
     Sum,
+    Flip(u32),
 }

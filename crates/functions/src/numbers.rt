@@ -1,7 +1,7 @@
 // The operations on numbers, and a letter.
 ghost use mathlib.Core.Path.{_≡_};
 ghost use Prim.Native.Nat.{min};
-ghost use Rattle.diagram.specs.Operation.{sum as sumOf, apply as applyOf};
+ghost use Rattle.diagram.specs.Operation.{sum as sumOf, flip as flipOf, apply as applyOf};
 use diagram::Operation;
 
 pub const NEVER: u32 = 4294967295;
@@ -31,11 +31,25 @@ pub fn sum(x: u32, y: u32) -> u32
     NEVER - 1
 }
 
+// A bit turned where the other number is n.
+pub fn flip(n: u32, bit: u32, other: u32) -> u32
+    ensures { λ r. ⌜ r ≡ flipOf n bit other ⌝ }
+{
+    if other != n {
+        return bit;
+    }
+    if bit == 0 {
+        return 1;
+    }
+    0
+}
+
 pub fn apply_numbers(o: Operation, x: u32, y: u32) -> u32
     ensures { λ r. ⌜ r ≡ applyOf o x y ⌝ }
 {
     match o {
         Operation::Smaller => least(x, y),
         Operation::Sum => sum(x, y),
+        Operation::Flip(n) => flip(n, x, y),
     }
 }
