@@ -1,22 +1,21 @@
 -- Clearing columns, and starting them anew.
 use mathlib.Core.Path.{_≡_, refl, sym, _∙_, ap}
 use mathlib.Core.Logic.{⊎-elim}
-use mathlib.Core.List.{List, [], _∷_, _++_, map}
-use mathlib.Core.Bool.{Bool, true, false}
-use Prim.Native.Nat.{ℕ, zero, suc, _+_, _-_, _<_, _≤_}
+use mathlib.Core.List.{List, [], _∷_, map}
+use mathlib.Core.Bool.{true, false}
+use Prim.Native.Nat.{ℕ, _+_, _-_, _<_, _≤_}
 use native.Mathlib.Omega.{arith}
 use lib.ListN.{length, getD, set, take, replicate, length-append, length-take, length-replicate, length-set, length-map, List·getD-append}
 use lib.Seq.{getD-set-same, getD-set-other, getD-take, getD-append-add, length-take-le, ext-getD}
 use Rattle.refusal.specs.declared.Reply.the-variants.{Done, Refused}
 use Rattle.refusal.specs.declared.Refusal.the-variants.{Buffer}
-use Rattle.refusal.specs.Answer.{Answer, answered, replyOf}
+use Rattle.refusal.specs.Answer.{replyOf}
 use Rattle.lists.specs.Padded.{padded}
 use Rattle.lists.proofs.Cases.{lt-or-ge, eq-or-ne}
 use Rattle.lists.proofs.Padded.{replicate-read}
 use Rattle.lists.proofs.Map.{map-take}
-use Rattle.diagram.specs.Table.{Entry, Table, never, terminalLetter}
-use Rattle.diagram.specs.Store.{fresh}
-use Rattle.diagram.specs.Call.{Columns, lengthsLegal, rows, tableOf, columnsOf, freshCall, columnsAfter}
+use Rattle.diagram.specs.Table.{Entry, Table}
+use Rattle.diagram.specs.Call.{lengthsLegal, rows, columnsOf, freshCall, columnsAfter}
 use Rattle.diagram.proofs.Columns.{letterOf, lowOf, highOf, Lengths, lengths-record, rows-letter, rows-low, rows-high, columns-path}
 use Rattle.table.specs.Holds.{columns, Holds, Kept, zeroFrom}
 

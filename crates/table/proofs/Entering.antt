@@ -1,20 +1,44 @@
 -- One row more in the index.
 use mathlib.Core.Path.{_≡_, refl, sym, _∙_, ap, subst}
-use mathlib.Core.List.{List}
-use mathlib.Core.Bool.{Bool, true, false, true≢false}
-use Prim.Native.Nat.{ℕ, suc, _+_, _*_, _/_, _<_, _≤_}
+use mathlib.Core.List.{List, _∷_}
+use mathlib.Core.Bool.{true, false, true≢false}
+use Prim.Native.Nat.{ℕ, zero, suc, _+_, _/_, _<_, _≤_}
 use native.Mathlib.Numerals.{add-one}
 use native.Mathlib.Omega.{arith}
-use lib.ListN.{length, getD, set, length-set}
-use lib.Seq.{getD-set-same, getD-set-other}
-use Rattle.diagram.specs.Table.{Entry, Table, branch, entryAt}
-use Rattle.diagram.specs.Call.{Columns, rows}
+use lib.ListN.{length, getD, set, take, replicate, length-set, length-replicate}
+use lib.Seq.{getD-set-same, getD-set-other, length-take-le}
+use Rattle.diagram.specs.Table.{branch, entryAt}
+use Rattle.diagram.specs.Call.{lengthsLegal, rows}
 use Rattle.diagram.proofs.Sound.{entry-path}
-use Rattle.diagram.proofs.Columns.{rows-at}
+use Rattle.diagram.proofs.Columns.{Lengths, lengths-record, rows-at}
 use Rattle.table.specs.Index.{bucket, Indexed, linked}
-use Rattle.table.specs.Holds.{columns, Sized, Ready, Sought, Empty}
+use Rattle.table.specs.Holds.{columns, Sized, Ready, Sought, Empty, IndexLength}
 use Rattle.table.specs.Steps.{Entered}
 use Rattle.table.proofs.Index.{indexed-none, indexed-agree, indexed-next}
+
+-- columns of legal lengths with an index of a length for them
+pub sized : {l w h ix : List ℕ} → lengthsLegal (columns l w h) ≡ true → IndexLength (length l) (length ix) → Sized l w h ix
+sized {l} {w} {h} {ix} e n =
+    let long : Lengths (columns l w h) = lengths-record (columns l w h) e in
+    record { least = long .least; most = long .most; low-long = long .low-long; high-long = long .high-long; even = n .even; room = n .room }
+
+-- the first part of a local array of zeros, lent as the index
+abbrev pub zeros : ℕ → List ℕ
+zeros m = replicate m 0
+
+empty-take : (n m : ℕ) → Empty (take n (zeros m))
+empty-take zero m = refl
+empty-take (suc n) zero = refl
+empty-take (suc n) (suc m) = ap {B = List ℕ} (λ r. 0 ∷ r) (empty-take n m)
+
+pub part-long : (n m : ℕ) → n ≤ m → length (take n (zeros m)) ≡ n
+part-long n m h = length-take-le n (zeros m) (omega (arith, length-replicate {A = ℕ} m 0))
+
+pub part-ready : (l w h : List ℕ) (n m : ℕ) → lengthsLegal (columns l w h) ≡ true → IndexLength (length l) n → n ≤ m
+    → Sized l w h (take n (zeros m)) × Empty (take n (zeros m))
+part-ready l w h n m e x le =
+    let z : length (take n (zeros m)) ≡ n = part-long n m le in
+    (sized e (rw z x), empty-take n m)
 
 -- an empty index is that of no rows
 pub ready-none : {l w h ix : List ℕ} → Sized l w h ix → Empty ix → Ready l w h ix 0

@@ -2,23 +2,16 @@
 use mathlib.Core.Path.{_≡_, refl, sym, _∙_, ap}
 use mathlib.Core.Logic.{_≢_, ⊎-elim}
 use mathlib.Core.List.{List}
-use mathlib.Core.Bool.{Bool, true, false, cond}
-use Prim.Native.Nat.{ℕ, zero, suc, _+_, _*_, _-_, _<_, _≤_}
-use native.Mathlib.Nat.{mod-lt}
+use Prim.Native.Nat.{ℕ, zero, suc, _+_, _<_, _≤_}
 use native.Mathlib.Numerals.{add-one}
 use native.Mathlib.Omega.{arith}
 use lib.ListN.{length, getD, set, replicate, length-set}
 use lib.Seq.{getD-set-same, getD-set-other}
-use lib.Dec.{eqb}
 use borrow.Author.Tests.{eq-eqb, ne-eqb}
 use Rattle.lists.proofs.Cases.{lt-or-ge, eq-or-ne}
 use Rattle.lists.proofs.Padded.{replicate-read}
 use Rattle.diagram.specs.Table.{Entry, Table, entryAt}
 use Rattle.table.specs.Index.{bucket, lastIn, Indexed, linked}
-
-pub bucket-lt : (half : ℕ) (x : Entry) → 0 < half → bucket half x < half
-unfolding bucket
-bucket-lt half x h = mod-lt (x .low * 40503 + x .high * 60493 + x .letter * 9973) h
 
 module _ (half : ℕ) (t : Table) where
   -- an entry of the bucket is the last one

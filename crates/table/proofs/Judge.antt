@@ -1,23 +1,23 @@
 -- The check of a table, step by step, against the definition of soundness.
-use mathlib.Core.Path.{_≡_, refl, sym, _∙_, ap}
+use mathlib.Core.Path.{_≡_, sym, _∙_, ap}
 use mathlib.Core.Logic.{⊎-elim}
 use mathlib.Core.List.{List}
 use mathlib.Core.Bool.{Bool, true, false, not, _&&_, cond, true≢false}
-use Prim.Native.Nat.{ℕ, zero, suc, _+_, _-_, _<_, _≤_}
+use Prim.Native.Nat.{ℕ, _+_, _-_, _<_, _≤_}
 use native.Mathlib.Omega.{arith}
-use lib.ListN.{length, getD, take, drop, length-drop}
+use lib.ListN.{length, getD, drop, length-drop}
 use lib.Seq.{getD-take, getD-drop}
-use lib.Dec.{leb, ltb, eqb}
+use lib.Dec.{ltb, eqb}
 use borrow.Author.Tests.{lt-ltb, le-ltb, le-leb, lt-leb, eq-eqb, ne-eqb}
 use Rattle.lists.specs.Tests.{below}
 use Rattle.lists.proofs.Cases.{bool-cases, lt-or-ge, and-left, and-right, and-both, true-false}
 use Rattle.lists.proofs.Below.{below-each, each-below}
 use Rattle.diagram.specs.Table.{Entry, Table, blank, terminalLetter, terminal, never, entryAt, same}
 use Rattle.diagram.specs.Sound.{partLegal, entryLegal, distinct, fixedTerminals, sound}
-use Rattle.diagram.specs.Call.{Columns, rows, tableOf, allBlank, columnsSound}
+use Rattle.diagram.specs.Call.{rows, tableOf, allBlank, columnsSound}
 use Rattle.diagram.proofs.Sound.{same-equal, same-differ, distinct-apart, apart-distinct}
 use Rattle.diagram.proofs.Columns.{letterOf, lowOf, highOf, rows-length, rows-at, table-length, blank-each, each-blank, columns-record, columns-table, ColumnsSound, Lengths}
-use Rattle.table.specs.Holds.{columns, Sized, Ready, Holds, Judged}
+use Rattle.table.specs.Holds.{columns, Sized, Ready, Judged}
 use Rattle.table.specs.Steps.{partIn, threeTerminals, entriesLegal, Entered, Filled}
 
 -- a test that cannot pass fails

@@ -3,23 +3,22 @@ use mathlib.Core.Path.{_≡_, refl, sym, _∙_, ap, subst}
 use mathlib.Core.Logic.{⊎-elim}
 use mathlib.Core.List.{List, [], _∷_, _++_}
 use mathlib.Core.Bool.{Bool, true, false, true≢false}
-use Prim.Native.Nat.{ℕ, suc, _+_, _*_, _/_, _<_, _≤_}
+use Prim.Native.Nat.{ℕ, _+_, _/_, _<_, _≤_}
 use native.Mathlib.Omega.{arith}
 use lib.ListN.{length, getD, set, take, length-append, length-set}
 use lib.Seq.{getD-take, take-take}
-use lib.Dec.{ltb}
 use borrow.Author.Tests.{lt-ltb, le-ltb, ltb-true, ltb-false}
 use Rattle.lists.proofs.Cases.{lt-or-ge, true-false}
 use Rattle.diagram.specs.Table.{Entry, Table, blank, branch, entryAt}
 use Rattle.diagram.specs.Sound.{distinct}
 use Rattle.diagram.specs.Store.{Stored, stored, find, add}
-use Rattle.diagram.specs.Call.{Columns, rows, tableOf, columnsOf}
-use Rattle.diagram.proofs.Sound.{entry-path, distinct-apart, apart-distinct}
+use Rattle.diagram.specs.Call.{Columns, rows, tableOf}
+use Rattle.diagram.proofs.Sound.{distinct-apart, apart-distinct}
 use Rattle.diagram.proofs.Add.{Extends, extends-refl, extends-append, extends-take, find-is, find-missing, find-cases, add-found, add-missing, Added, added}
-use Rattle.diagram.proofs.Columns.{rows-at, table-length, table-columns, columns-path, columns-letter-at, columns-low-at, columns-high-at, columns-letter-set, columns-low-set, columns-high-set}
+use Rattle.diagram.proofs.Columns.{table-length, table-columns, columns-path, columns-letter-at, columns-low-at, columns-high-at, columns-letter-set, columns-low-set, columns-high-set}
 use Rattle.table.specs.declared.Put.{Put}
-use Rattle.table.specs.Index.{bucket, Indexed, linked}
-use Rattle.table.specs.Holds.{columns, Sized, Ready, Holds, Kept, Outcome, Sought}
+use Rattle.table.specs.Index.{bucket, linked}
+use Rattle.table.specs.Holds.{columns, Holds, Kept, Outcome, Sought}
 use Rattle.table.proofs.Entering.{ready-write}
 
 abbrev pub put : Bool → ℕ → ℕ → Put

@@ -1,13 +1,12 @@
 -- Rows of lent columns, read number by number.
-use mathlib.Core.Path.{_≡_, refl, sym, _∙_, ap}
+use mathlib.Core.Path.{_≡_, ap}
 use mathlib.Core.List.{List}
-use mathlib.Core.Bool.{Bool, true, false, _&&_}
+use mathlib.Core.Bool.{false, _&&_}
 use Prim.Native.Nat.{ℕ, _<_, _≤_}
-use native.Mathlib.Omega.{arith}
 use lib.ListN.{length, getD}
 use lib.Dec.{eqb}
 use borrow.Author.Tests.{eq-eqb, ne-eqb, le-leb, lt-leb}
-use Rattle.diagram.specs.Table.{Entry, Table, branch, entryAt, same}
+use Rattle.diagram.specs.Table.{Entry, branch, entryAt, same}
 use Rattle.diagram.specs.Call.{lengthsLegal, rows}
 use Rattle.diagram.proofs.Columns.{rows-at}
 use Rattle.table.specs.Holds.{columns}

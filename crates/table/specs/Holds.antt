@@ -2,7 +2,7 @@
 use mathlib.Core.Path.{_≡_}
 use mathlib.Core.List.{List, _++_}
 use mathlib.Core.Bool.{Bool, true, false}
-use Prim.Native.Nat.{ℕ, _+_, _-_, _*_, _/_, _<_, _≤_}
+use Prim.Native.Nat.{ℕ, _-_, _*_, _/_, _<_, _≤_}
 use lib.ListN.{length, take, replicate}
 use lib.Dec.{ltb}
 use Rattle.diagram.specs.Table.{Entry, Table, entryAt}

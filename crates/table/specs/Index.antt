@@ -2,13 +2,17 @@
 use mathlib.Core.Path.{_≡_}
 use mathlib.Core.List.{List}
 use mathlib.Core.Bool.{cond}
-use Prim.Native.Nat.{ℕ, zero, suc, _+_, _*_, _%_, _<_}
+use Prim.Native.Nat.{ℕ, zero, suc, _+_, _*_, _/_, _%_, _<_}
 use lib.ListN.{getD, set}
 use lib.Dec.{eqb}
 use Rattle.diagram.specs.Table.{Entry, Table, entryAt}
 
+abbrev pub mixed : ℕ → ℕ
+mixed n = n + n / 65536
+
+-- the upper bits are added in: terminals that are multiples of a power of two spread too
 unfoldable pub bucket : ℕ → Entry → ℕ
-bucket half x = (x .low * 40503 + x .high * 60493 + x .letter * 9973) % half
+bucket half x = mixed (x .low * 40503 + x .high * 60493 + x .letter * 9973) % half
 
 -- one more than the last of the first n entries that is in a bucket, or 0
 unfoldable pub lastIn : ℕ → Table → ℕ → ℕ → ℕ

@@ -3,18 +3,15 @@
 // The index is chained: `index` has a head for each bucket and a link for each entry (specs/Index.antt). Whoever calls sees only
 // that the columns and the index hold a table (specs/Holds.antt).
 ghost use mathlib.Core.Path.{_≡_};
-ghost use mathlib.Core.Bool.{true, _&&_};
 ghost use mathlib.Core.List.{[], _∷_};
-ghost use Prim.Native.Nat.{ℕ, _+_, _*_, _/_, _<_, _≤_};
-ghost use lib.ListN.{length, getD, drop};
-ghost use lib.Dec.{ltb};
+ghost use Prim.Native.Nat.{_+_, _/_, _<_, _≤_};
+ghost use lib.ListN.{length, drop};
 ghost use Rattle.refusal.specs.Answer.{replyOf};
 ghost use Rattle.lists.specs.Padded.{padded};
-ghost use Rattle.lists.specs.Tests.{below};
 ghost use Rattle.diagram.specs.Table.{branch, entryAt, same};
-ghost use Rattle.diagram.specs.Sound.{entryLegal, distinct, fixedTerminals};
+ghost use Rattle.diagram.specs.Sound.{entryLegal};
 ghost use Rattle.diagram.specs.Store.{find as findOf, add as addOf};
-ghost use Rattle.diagram.specs.Call.{lengthsLegal, rows, tableOf, allBlank, columnsSound, freshCall, columnsAfter};
+ghost use Rattle.diagram.specs.Call.{lengthsLegal, rows, tableOf, allBlank, freshCall, columnsAfter};
 ghost use Rattle.table.specs.Index.{bucket as bucketOf, linked};
 ghost use Rattle.table.specs.Holds.{columns, Sized, Ready, Holds, Outcome, Sought, Judged, zeroFrom, Empty, IndexLength};
 ghost use Rattle.table.specs.Steps.{partIn, threeTerminals, Entered, Filled};
@@ -63,7 +60,8 @@ fn bucket(half: usize, k: u32, a: u32, b: u32) -> usize
     ensures { λ r. ⌜ (r ≡ bucketOf half (branch k a b)) × (r < half) ⌝ }
 {
     let sum = (a as u64) * 40503 + (b as u64) * 60493 + (k as u64) * 9973;
-    (sum % (half as u64)) as usize
+    let mixed = sum + sum / 65536;
+    (mixed % (half as u64)) as usize
 }
 
 // Whether row `i` is the entry (k, a, b).

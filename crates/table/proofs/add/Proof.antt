@@ -1,3 +1,4 @@
+-- What is found is answered; what is not is written at the used count and linked, where there is room.
 use borrow.Author.Needs.{needs}
 use native.Mathlib.Omega.{arith}
 use Rattle.table.proofs.Outcomes.{outcome-found, outcome-new, outcome-full}

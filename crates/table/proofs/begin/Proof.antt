@@ -1,3 +1,4 @@
+-- Cleared from the fourth number on, then three stores.
 use borrow.Author.Needs.{needs}
 use native.Mathlib.Omega.{arith}
 use lib.ListN.{length-set}

@@ -1,3 +1,4 @@
+-- The invariant: the rows from the place on, as far as the loop has come, are blank.
 use borrow.Author.Needs.{needs}
 use borrow.Author.Tests.{not-true, not-false}
 use mathlib.Core.Path.{sym, _∙_}

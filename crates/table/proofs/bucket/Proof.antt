@@ -21,6 +21,9 @@ mul-sum-3 c = search needs
 add-sum-2 : tie.Need-add-sum-2
 add-sum-2 c = search needs
 
+add-mixed : tie.Need-add-mixed
+add-mixed c = search needs
+
 rem-result : tie.Need-rem-result
 rem-result c = search needs
 
@@ -29,4 +32,4 @@ unfolding bucket
 returns c = (refl, mod-lt _ (c .pre))
 
 pub bucket-spec : {M : Type 1} → statement M
-bucket-spec = tie.close (tie.spec mul-sum mul-sum-2 add-sum mul-sum-3 add-sum-2 rem-result returns)
+bucket-spec = tie.close (tie.spec mul-sum mul-sum-2 add-sum mul-sum-3 add-sum-2 add-mixed rem-result returns)

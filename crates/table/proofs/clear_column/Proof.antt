@@ -1,3 +1,4 @@
+-- The invariant: the column is as it was before the place, and zero from there on as far as the loop has come.
 use borrow.Author.Needs.{needs}
 use Prim.Native.Nat.{_-_}
 use native.Mathlib.Omega.{arith}

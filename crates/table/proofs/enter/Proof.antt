@@ -1,3 +1,4 @@
+-- A row that is found among the earlier ones has a twin; one that is not is linked at the head of its bucket.
 use borrow.Author.Needs.{needs}
 use Rattle.table.proofs.Entering.{entered-twin, entered-new}
 use Rattle.table.proofs.enter.Statement.{statement}

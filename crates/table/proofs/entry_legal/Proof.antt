@@ -1,3 +1,4 @@
+-- Each test is the definition's, read from the columns.
 use borrow.Author.Needs.{needs}
 use borrow.Author.Tests.{not-true, not-false}
 use mathlib.Core.Path.{sym, _∙_}

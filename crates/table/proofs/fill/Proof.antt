@@ -1,3 +1,4 @@
+-- The invariant: the rows so far are legal, differ, and are in the index.
 use borrow.Author.Needs.{needs}
 use borrow.Author.Tests.{not-true, not-false}
 use mathlib.Core.Path.{_≡_, sym, _∙_, subst}

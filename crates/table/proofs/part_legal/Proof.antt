@@ -1,3 +1,4 @@
+-- Both tests are the definition's.
 use borrow.Author.Needs.{needs}
 use Rattle.table.proofs.Judge.{part-late, part-early}
 use Rattle.table.proofs.part_legal.Statement.{statement}

@@ -1,6 +1,6 @@
+-- The invariant: the search has come down to an entry of the bucket, and what is sought is not from there on.
 use borrow.Author.Needs.{needs}
 use mathlib.Core.Path.{sym, _∙_}
-use native.Mathlib.Omega.{arith}
 use Rattle.diagram.specs.Table.{branch}
 use Rattle.diagram.specs.Call.{rows}
 use Rattle.diagram.proofs.Sound.{same-equal, same-differ}

@@ -1,3 +1,4 @@
+-- Each test is a part of the definition; a table that passes them all is in the index.
 use borrow.Author.Needs.{needs}
 use borrow.Author.Tests.{not-true, not-false}
 use mathlib.Core.Path.{sym, _∙_}
