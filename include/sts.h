@@ -10,6 +10,9 @@
  * The arrays of one call do not overlap: what a call does with arrays that do is
  * outside all its promises.
  *
+ * Stack. A caller has at least 1 MiB of stack free: a call on a function table
+ * keeps its working memory there.
+ *
  * Answers. Every call returns 0 if it was answered and else the number of a
  * refusal. A call may have several reasons to refuse; which of them it gives is
  * told with each call. A refused call leaves all lent arrays as they were, unless
@@ -46,7 +49,8 @@ enum sts_answer {
     STS_UNSOUND = 7,
     /* A lent length is out of its range, or columns differ in length. */
     STS_BUFFER = 8,
-    /* There is no such node, letter, pattern or entry. */
+    /* There is no such node, letter, pattern or entry, there are too many letters,
+       or a function takes other numbers than 0 and 1 where it may not. */
     STS_QUESTION = 9,
     /* The run is finished: nothing pends and nothing is scheduled. */
     STS_FINISHED = 10
@@ -89,6 +93,234 @@ enum sts_header {
  */
 uint32_t sts_read(const uint8_t *file, size_t file_length,
                   uint32_t *header, size_t header_length);
+
+/*
+ * Function tables.
+ *
+ * A function gives a number for each pattern of the letters. There are K letters,
+ * 0 to STS_MOST_LETTERS; a pattern is a number below 2 to the power K, in which
+ * bit k is letter k. The largest number, STS_NEVER, stands for never.
+ *
+ * Functions are kept in a table: three columns, letter, low and high, of one
+ * length from STS_LEAST_TABLE to STS_LONGEST_TABLE. A used count, which the caller
+ * keeps beside the columns, tells how many entries they hold. A function is named
+ * by the number of its entry. An entry e is
+ *
+ *   a terminal  letter[e] is STS_TERMINAL, low[e] the function's number at every
+ *               pattern, high[e] 0;
+ *   a branch    letter[e] is a letter; the function is that of entry low[e] where
+ *               the letter is 0, and that of entry high[e] where it is 1.
+ *
+ * A table is sound for K letters if
+ *
+ *   - the used count is from 3 to the length of the columns;
+ *   - entries 0, 1 and 2 are the terminals 0, 1 and never;
+ *   - every branch has a letter below K and two different parts, both of them
+ *     earlier entries and each a terminal or a branch at a larger letter;
+ *   - no two entries are equal in all three columns;
+ *   - all three columns are 0 from the used count on.
+ *
+ * Two functions in a sound table have the same entry exactly if they agree at
+ * every pattern. So they are compared by comparing their entries.
+ *
+ * sts_fresh makes a table; the calls below it add to one or ask about one. A table
+ * that was used with K letters may be used with more of them later, up to
+ * STS_MOST_LETTERS; its functions do not depend on the letters that are new.
+ * Nothing is ever removed: entries keep their numbers and their meaning. A call
+ * that adds entries adds those of its result that are missing and no others. An
+ * earlier used count is of no more use then: the table is sound only with the
+ * present one.
+ *
+ * Every call first checks all of the table, so a caller may keep tables anywhere,
+ * copy them, read their columns and write to them: a table that is no longer sound
+ * is refused. A copy may have another length, so long as it is 0 from the used
+ * count on.
+ *
+ * The columns of one call, its used count and its result do not overlap: what a
+ * call does where they do is outside all its promises. The pointers to single
+ * numbers are not null and are aligned.
+ *
+ * A refused call changes nothing: not the columns, not the used count, and not the
+ * number that its last pointer points to. Of several reasons to refuse, the first
+ * in this order is given, as far as a call has it:
+ *
+ *   STS_BUFFER    the columns differ in length, or have fewer than STS_LEAST_TABLE
+ *                 or more than STS_LONGEST_TABLE entries
+ *   STS_UNSOUND   the table is not sound for the K that is given
+ *   STS_QUESTION  K is above STS_MOST_LETTERS; or what the call says
+ *   STS_FULL      the entries used and those to be added are more than the length,
+ *                 and only then: where the result just fits, it is answered
+ */
+
+/* The letter of a terminal. */
+#define STS_TERMINAL UINT32_MAX
+
+/* The number that stands for never. */
+#define STS_NEVER UINT32_MAX
+
+/* The most letters that a call may have. */
+#define STS_MOST_LETTERS 12
+
+/* The lengths that a table may have. */
+#define STS_LEAST_TABLE 3
+#define STS_LONGEST_TABLE 65536
+
+/* The used count of a fresh table. */
+#define STS_FRESH_USED 3
+
+/* The entries that every table has. */
+enum sts_entry {
+    /* The number 0 at every pattern. */
+    STS_ENTRY_0 = 0,
+    /* The number 1 at every pattern. */
+    STS_ENTRY_1 = 1,
+    /* Never at every pattern. */
+    STS_ENTRY_NEVER = 2
+};
+
+/*
+ * Makes the columns a fresh table: the terminals 0, 1 and never, and zeros after
+ * them. What stood in the columns does not matter and is lost. The used count of
+ * the table is STS_FRESH_USED; the caller sets it.
+ *
+ * Returns STS_OK or STS_BUFFER.
+ */
+uint32_t sts_fresh(uint32_t *letter, size_t letter_length,
+                   uint32_t *low, size_t low_length,
+                   uint32_t *high, size_t high_length);
+
+/*
+ * Chooses between two functions: the result is that of entry first where that of
+ * entry selector is 1, and that of entry second where it is 0. With entries 0 and
+ * 1 this gives the Boolean operations: choose (f, g, 0) is "f and g",
+ * choose (f, 1, g) is "f or g", choose (f, 0, 1) is "not f".
+ *
+ *   letters                  K
+ *   letter, low, high        the table's columns, which may be added to
+ *   used                     its used count, before and after
+ *   selector, first, second  entries of the table
+ *   entry                    receives the result's entry
+ *
+ * Returns STS_OK, STS_BUFFER, STS_UNSOUND, STS_QUESTION or STS_FULL.
+ *
+ *   STS_QUESTION  also if selector, first or second is no entry below the used
+ *                 count, or the selector is another number than 0 and 1 at some
+ *                 pattern
+ */
+uint32_t sts_choose(uint32_t letters,
+                    uint32_t *letter, size_t letter_length,
+                    uint32_t *low, size_t low_length,
+                    uint32_t *high, size_t high_length,
+                    uint32_t *used,
+                    uint32_t selector, uint32_t first, uint32_t second,
+                    uint32_t *entry);
+
+/*
+ * Gives the smaller of two functions, pattern by pattern. Never is larger than all
+ * other numbers.
+ *
+ *   letters            K
+ *   letter, low, high  the table's columns, which may be added to
+ *   used               its used count, before and after
+ *   first, second      entries of the table
+ *   entry              receives the result's entry
+ *
+ * Returns STS_OK, STS_BUFFER, STS_UNSOUND, STS_QUESTION or STS_FULL.
+ *
+ *   STS_QUESTION  also if first or second is no entry below the used count
+ */
+uint32_t sts_smaller(uint32_t letters,
+                     uint32_t *letter, size_t letter_length,
+                     uint32_t *low, size_t low_length,
+                     uint32_t *high, size_t high_length,
+                     uint32_t *used,
+                     uint32_t first, uint32_t second,
+                     uint32_t *entry);
+
+/*
+ * Adds two functions, pattern by pattern: never where either is never, and else
+ * the sum, or STS_NEVER - 1 where the sum is larger than that.
+ *
+ * Parameters and refusals are those of sts_smaller.
+ */
+uint32_t sts_sum(uint32_t letters,
+                 uint32_t *letter, size_t letter_length,
+                 uint32_t *low, size_t low_length,
+                 uint32_t *high, size_t high_length,
+                 uint32_t *used,
+                 uint32_t first, uint32_t second,
+                 uint32_t *entry);
+
+/*
+ * Fixes a letter: the result is, at every pattern, what the function is at that
+ * pattern with the letter's bit set to the one given.
+ *
+ *   letters            K
+ *   letter, low, high  the table's columns, which may be added to
+ *   used               its used count, before and after
+ *   function           an entry of the table
+ *   letter_number      the letter to be fixed, below K
+ *   bit                0 or 1
+ *   entry              receives the result's entry
+ *
+ * Returns STS_OK, STS_BUFFER, STS_UNSOUND, STS_QUESTION or STS_FULL.
+ *
+ *   STS_QUESTION  also if function is no entry below the used count, letter_number
+ *                 is not below K, or bit is neither 0 nor 1
+ */
+uint32_t sts_fix(uint32_t letters,
+                 uint32_t *letter, size_t letter_length,
+                 uint32_t *low, size_t low_length,
+                 uint32_t *high, size_t high_length,
+                 uint32_t *used,
+                 uint32_t function, uint32_t letter_number, uint32_t bit,
+                 uint32_t *entry);
+
+/*
+ * Gives a function's number at a pattern. The table is only read.
+ *
+ *   letters            K
+ *   letter, low, high  the table's columns
+ *   used               its used count
+ *   function           an entry of the table
+ *   pattern            a number below 2 to the power K
+ *   number             receives the number; STS_NEVER is one
+ *
+ * Returns STS_OK, STS_BUFFER, STS_UNSOUND or STS_QUESTION.
+ *
+ *   STS_QUESTION  also if function is no entry below the used count, or pattern is
+ *                 not below 2 to the power K
+ */
+uint32_t sts_number(uint32_t letters,
+                    const uint32_t *letter, size_t letter_length,
+                    const uint32_t *low, size_t low_length,
+                    const uint32_t *high, size_t high_length,
+                    uint32_t used,
+                    uint32_t function, uint32_t pattern,
+                    uint32_t *number);
+
+/*
+ * Counts the patterns, of all 2 to the power K, at which a function is 1. The
+ * table is only read.
+ *
+ *   letters            K
+ *   letter, low, high  the table's columns
+ *   used               its used count
+ *   function           an entry of the table
+ *   count              receives the count, 0 to 4096
+ *
+ * Returns STS_OK, STS_BUFFER, STS_UNSOUND or STS_QUESTION.
+ *
+ *   STS_QUESTION  also if function is no entry below the used count, or is another
+ *                 number than 0 and 1 at some pattern
+ */
+uint32_t sts_count(uint32_t letters,
+                   const uint32_t *letter, size_t letter_length,
+                   const uint32_t *low, size_t low_length,
+                   const uint32_t *high, size_t high_length,
+                   uint32_t used,
+                   uint32_t function,
+                   uint32_t *count);
 
 #ifdef __cplusplus
 }

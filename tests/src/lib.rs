@@ -5,6 +5,7 @@
 //! into the tool; the comparisons themselves are the files of `tests/`.
 
 pub mod cell_file;
+pub mod functions;
 pub mod generate;
 pub mod listing;
 pub mod program;

@@ -34,13 +34,18 @@ impl Cases {
         }
     }
 
-    /// Draws each case and hands it over.
+    /// Draws the file of each case and hands it over.
     pub fn for_each(&self, mut check: impl FnMut(&Case)) {
+        self.for_each_index(|seed, index| check(&Case::draw(seed, index)));
+    }
+
+    /// Hands over the seed and the index of each case.
+    pub fn for_each_index(&self, mut check: impl FnMut(u64, u64)) {
         for index in self.indices.clone() {
             if self.trace {
                 eprintln!("seed {} index {index}", self.seed);
             }
-            check(&Case::draw(self.seed, index));
+            check(self.seed, index);
         }
     }
 }

@@ -1,2 +1,3 @@
 pub mod Five
 pub mod ReadCell
+pub mod Handed

@@ -1,8 +1,11 @@
-//! Makers of files: legal cells of all sizes, and files that are damaged at
-//! random or for one refusal.
+//! Makers of cases: legal cells of all sizes, files that are damaged at random or
+//! for one refusal, function tables of all sizes, damaged ones, and calls on them.
 
+pub mod calls;
 pub mod damage;
+pub mod functions;
 pub mod legal;
+pub mod unsound;
 
 use crate::cell_file::{Layout, KINDS, RECORD};
 use crate::random::Random;

@@ -1,0 +1,20 @@
+use borrow.Author.Tests.{lt-ltb, le-ltb, le-leb, lt-leb}
+use Rattle.diagram.specs.Pattern.{mostLetters}
+use Rattle.calls.proofs.Answers.{passed-legible}
+use Rattle.calls.proofs.asked.fix_asked.Statement.{statement}
+use Rattle.calls.proofs.asked.fix_asked.Tie as tie
+
+returns : tie.Need-returns
+returns c = rw (lt-leb (c .before .args .k) mostLetters (c .if1 .taken))
+
+returns-2 : tie.Need-returns-2
+returns-2 c = rw (le-leb (c .before .before .args .k) mostLetters (c .before .if1 .left), le-ltb (c .before .before .args .e) (c .before .before .args .used) (c .if2 .taken))
+
+returns-3 : tie.Need-returns-3
+returns-3 c = rw (le-leb (c .before .before .before .args .k) mostLetters (c .before .before .if1 .left), lt-ltb (c .before .before .before .args .e) (c .before .before .before .args .used) (c .before .if2 .left), le-ltb (c .before .before .before .args .j) (c .before .before .before .args .k) (c .if3 .taken))
+
+returns-4 : tie.Need-returns-4
+returns-4 c = rw (le-leb (c .before .before .before .args .k) mostLetters (c .before .before .if1 .left), lt-ltb (c .before .before .before .args .e) (c .before .before .before .args .used) (c .before .if2 .left), lt-ltb (c .before .before .before .args .j) (c .before .before .before .args .k) (c .if3 .left))
+
+pub fix-asked-spec : {M : Type 1} → statement M
+fix-asked-spec = tie.close (tie.spec returns returns-2 returns-3 returns-4)

@@ -1,0 +1,59 @@
+// Choose.
+ghost use Rattle.diagram.specs.Call.{chooseCall};
+ghost use Rattle.table.specs.Holds.{columns, Sized, Empty};
+ghost use Rattle.calls.specs.Answered.{StoredAs};
+use crate::Stored;
+use crate::asked::choose_asked;
+use crate::close::closed;
+use crate::refused;
+use functions::choose::choose;
+use refusal::Refusal;
+use table::index_len;
+use table::lengths_legal;
+use table::sound;
+
+// On columns of legal lengths, with an empty index.
+fn choose_open(
+    letter: &mut [u32],
+    low: &mut [u32],
+    high: &mut [u32],
+    index: &mut [u32],
+    k: u32,
+    used: u32,
+    s: u32,
+    a: u32,
+    b: u32,
+) -> Stored
+    requires { ⌜ Sized (now letter) (now low) (now high) (now index) × Empty (now index) ⌝ }
+    ensures { λ r. ⌜ StoredAs (columns (now (letter .entry)) (now (low .entry)) (now (high .entry))) (columns (now (letter .exit)) (now (low .exit)) (now (high .exit))) used (chooseCall k (columns (now (letter .entry)) (now (low .entry)) (now (high .entry))) used s a b) (r .reply) (r .used) (r .entry) ⌝ }
+{
+    if !sound(k, letter, low, high, used, index) {
+        return refused(Refusal::Unsound, used);
+    }
+    if !choose_asked(letter, low, high, k, used, s, a, b) {
+        return refused(Refusal::Question, used);
+    }
+    let put = choose(letter, low, high, index, used, k, s, a, b, k);
+    closed(letter, low, high, used, put)
+}
+
+// Entry `a` where selector `s` is 1, else `b`.
+pub fn choose_call(
+    k: u32,
+    letter: &mut [u32],
+    low: &mut [u32],
+    high: &mut [u32],
+    used: u32,
+    s: u32,
+    a: u32,
+    b: u32,
+) -> Stored
+    ensures { λ r. ⌜ StoredAs (columns (now (letter .entry)) (now (low .entry)) (now (high .entry))) (columns (now (letter .exit)) (now (low .exit)) (now (high .exit))) used (chooseCall k (columns (now (letter .entry)) (now (low .entry)) (now (high .entry))) used s a b) (r .reply) (r .used) (r .entry) ⌝ }
+{
+    if !lengths_legal(letter, low, high) {
+        return refused(Refusal::Buffer, used);
+    }
+    let n = index_len(letter.len());
+    let mut index = [0u32; 131072];
+    choose_open(letter, low, high, &mut index[..n], k, used, s, a, b)
+}

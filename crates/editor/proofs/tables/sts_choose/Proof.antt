@@ -1,0 +1,34 @@
+-- `sts_choose` hands over what the call below it answers.
+use borrow.Author.Needs.{needs}
+use Rattle.editor.proofs.Handed.{stored-call}
+use Rattle.editor.proofs.tables.sts_choose.Statement.{statement}
+use Rattle.editor.proofs.tables.sts_choose.Tie as tie
+
+choose-call-requires : tie.Need-choose-call-requires
+choose-call-requires c κs = search needs
+
+give-stored-requires : tie.Need-give-stored-requires
+give-stored-requires c κs = search needs
+
+same-length : tie.Need-same-length
+same-length c = search needs
+
+same-length-2 : tie.Need-same-length-2
+same-length-2 c = search needs
+
+same-length-3 : tie.Need-same-length-3
+same-length-3 c = search needs
+
+returns : tie.Need-returns
+returns c = stored-call _ _ _ (c .before .before .before .before .before .before .before .before .before .choose-call .ensures) (c .give-stored .ensures)
+
+pub sts-choose-spec : {M : Type 1} → statement M
+sts-choose-spec =
+    tie.close
+    (tie.spec
+    choose-call-requires
+    give-stored-requires
+    same-length
+    same-length-2
+    same-length-3
+    returns)

@@ -1,0 +1,34 @@
+-- `sts_fix` hands over what the call below it answers.
+use borrow.Author.Needs.{needs}
+use Rattle.editor.proofs.Handed.{stored-call}
+use Rattle.editor.proofs.tables.sts_fix.Statement.{statement}
+use Rattle.editor.proofs.tables.sts_fix.Tie as tie
+
+fix-call-requires : tie.Need-fix-call-requires
+fix-call-requires c κs = search needs
+
+give-stored-requires : tie.Need-give-stored-requires
+give-stored-requires c κs = search needs
+
+same-length : tie.Need-same-length
+same-length c = search needs
+
+same-length-2 : tie.Need-same-length-2
+same-length-2 c = search needs
+
+same-length-3 : tie.Need-same-length-3
+same-length-3 c = search needs
+
+returns : tie.Need-returns
+returns c = stored-call _ _ _ (c .before .before .before .before .before .before .before .before .before .fix-call .ensures) (c .give-stored .ensures)
+
+pub sts-fix-spec : {M : Type 1} → statement M
+sts-fix-spec =
+    tie.close
+    (tie.spec
+    fix-call-requires
+    give-stored-requires
+    same-length
+    same-length-2
+    same-length-3
+    returns)

@@ -1,0 +1,17 @@
+-- `sts_number` hands over what the call below it answers.
+use borrow.Author.Needs.{needs}
+use Rattle.editor.proofs.Handed.{told-call}
+use Rattle.editor.proofs.tables.sts_number.Statement.{statement}
+use Rattle.editor.proofs.tables.sts_number.Tie as tie
+
+number-call-requires : tie.Need-number-call-requires
+number-call-requires c κs = search needs
+
+give-number-requires : tie.Need-give-number-requires
+give-number-requires c κs = search needs
+
+returns : tie.Need-returns
+returns c = told-call _ _ (c .before .before .number-call .ensures) (c .give-number .ensures)
+
+pub sts-number-spec : {M : Type 1} → statement M
+sts-number-spec = tie.close (tie.spec number-call-requires give-number-requires returns)
