@@ -56,7 +56,7 @@ pub record Records (c : Circuit) (states : ℕ → State) (t : Table) (m : Momen
       → getD (m .run .changes) i 0 ≡ neverEntry
 
 -- a function of each node number
-abbrev eachNode : Circuit → (State → ℕ → ℕ) → (ℕ → State) → List (ℕ → ℕ)
+abbrev pub eachNode : Circuit → (State → ℕ → ℕ) → (ℕ → State) → List (ℕ → ℕ)
 eachNode c f states = map (λ (n : ℕ) (p : ℕ). f (states p) n) (nodeNumbers c)
 
 each-length : (c : Circuit) (f : State → ℕ → ℕ) (states : ℕ → State) → length (eachNode c f states) ≡ length (c .nodes)
@@ -69,7 +69,7 @@ each-at c f states i h p =
     ∙ ap (f (states p)) (up-at (length (c .nodes)) 2 i 0 h)
 
 -- the values of all nodes, stored
-abbrev storedValues : Circuit → (ℕ → State) → Table → StoredAll
+abbrev pub storedValues : Circuit → (ℕ → State) → Table → StoredAll
 storedValues c states t = storeAll (c .letters) (eachNode c valueAt states) t
 
 abbrev storedChanges : Circuit → (ℕ → State) → Table → StoredAll
@@ -96,6 +96,14 @@ module _ (c : Circuit) (time : ℕ) (states : ℕ → State) (t : Table) where
   pub moment-used : momentOf c time states t .run .used ≡ length (momentOf c time states t .table)
   unfolding momentOf
   moment-used = refl
+
+  -- what the values add comes before what the next changes add: the values' table is the first part of the moment's, and holds the values' entries
+  pub values-first : c .letters ≤ mostLetters → Sound (c .letters) t
+      → Extends t (storedValues c states t .table) × Extends (storedValues c states t .table) (momentOf c time states t .table)
+      × (momentOf c time states t .run .values ≡ storedValues c states t .entries)
+  values-first few s =
+      let a : AreStored (c .letters) (eachNode c valueAt states) t (storedValues c states t) = all-stored (eachNode c valueAt states) t few s in
+      rw moment-is (a .extends, all-stored (eachNode c changeAt states) (storedValues c states t .table) few (a .sound) .extends, refl)
 
   -- it records the states
   pub moment-records : c .letters ≤ mostLetters → Sound (c .letters) t → Records c states t (momentOf c time states t)
