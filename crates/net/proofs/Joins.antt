@@ -106,15 +106,17 @@ unfolding groups
 length-groups c = length-link c (nodeNumbers c) (c .transistors) ∙ up-length (length (c .nodes)) 2
 
 -- a channel between inner nodes joins their labels
+pub labels-joined : (place : ℕ) (c : Circuit) (t : Transistor) (before after : List ℕ) → length (c .nodes) ≤ 24 → t .first < 2 + length (c .nodes) → t .second < 2 + length (c .nodes) → betweenInner c t ≡ true
+    → Row place 26 (relabelled before place (at before (place + t .second)) (at before (place + t .first))) before after
+    → (ls : Labels) → length ls ≡ length (c .nodes) → Labelled before place ls → Labelled after place (cond (betweenInner c t) (join ls (t .first) (t .second)) ls)
+labels-joined place c t before after few a b e row ls len was =
+    let ia = inner-node c (length ls) (t .first) (and-left (isInner c (t .first)) (isInner c (t .second)) e) (omega arith) in
+    let ib = inner-node c (length ls) (t .second) (and-right (isInner c (t .first)) (isInner c (t .second)) e) (omega arith) in
+    rw e (labelled-join place ls (t .first) (t .second) before after (omega arith) (ia .least, ia .most) (ib .least, ib .most) was row)
+
 pub linked-joined : (c : Circuit) (t : Transistor) (before after : List ℕ) → length (c .nodes) ≤ 24 → t .first < 2 + length (c .nodes) → t .second < 2 + length (c .nodes) → betweenInner c t ≡ true
     → Row 2288 26 (relabelled before 2288 (at before (2288 + t .second)) (at before (2288 + t .first))) before after → Linked c t before after
-linked-joined c t before after few a b e row = record {
-  rest = row .rest;
-  labels = λ ls len was.
-      let ia = inner-node c (length ls) (t .first) (and-left (isInner c (t .first)) (isInner c (t .second)) e) (omega arith) in
-      let ib = inner-node c (length ls) (t .second) (and-right (isInner c (t .first)) (isInner c (t .second)) e) (omega arith) in
-      rw e (labelled-join 2288 ls (t .first) (t .second) before after (omega arith) (ia .least, ia .most) (ib .least, ib .most) was row);
-}
+linked-joined c t before after few a b e row = record { rest = row .rest; labels = labels-joined 2288 c t before after few a b e row }
 
 -- another leaves them
 pub linked-apart : (c : Circuit) (t : Transistor) (net : List ℕ) → betweenInner c t ≡ false → Linked c t net net

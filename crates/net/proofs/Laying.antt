@@ -7,21 +7,20 @@ use native.Mathlib.Omega.{arith}
 use lib.ListN.{length, getD, length-map}
 use lib.Seq.{ext-getD}
 use lib.Dec.{eqb}
-use mathlib.Core.Bool.{not}
-use borrow.Author.Tests.{le-ltb, le-leb}
+use borrow.Author.Tests.{le-leb}
 use Rattle.refusal.specs.Answer.{answered}
 use Rattle.units.specs.Units.{picoseconds}
 use Rattle.format.specs.declared.Node.{Node}
 use Rattle.format.specs.declared.Transistor.{Transistor}
 use Rattle.format.specs.declared.Entry.{Entry}
 use Rattle.format.specs.Circuit.{Circuit, noNode, noTransistor, noEntry, nodeRecord}
-use Rattle.format.specs.Legal.{mostNodes, mostTransistors, mostEntries, mostHorizon, checkCircuit}
+use Rattle.format.specs.Legal.{mostNodes, mostTransistors, mostEntries, mostHorizon, isInput, checkCircuit}
 use Rattle.format.proofs.Every.{map-at, map-same}
 use Rattle.format.proofs.Legal.{LegalNode, LegalTransistor, LegalEntry, legal-limits, legal-node, legal-transistor, legal-entry}
 use Rattle.cell.specs.declared.Cell.{Cell}
 use Rattle.cell.specs.Value.{firsts, circuitOf}
 use Rattle.cell.proofs.Firsts.{length-firsts, firsts-at}
-use Rattle.rules.specs.State.{upFrom, isInner}
+use Rattle.rules.specs.State.{upFrom}
 use Rattle.rules.proofs.State.{up-length, up-at}
 use Rattle.net.specs.Net.{at, netNode, netTransistor, netEntry, netCircuit}
 use Rattle.net.specs.Laid.{NodeWithin, TransistorWithin, EntryWithin, Within}
@@ -82,11 +81,11 @@ module _ (net : List ℕ) where
   unfolding netCircuit
   entry-at i h = rows-at (netEntry net) (at net 2) i noEntry h
 
--- a node record is an inner node's unless its role is that of an input
-pub inner-at : (net : List ℕ) (n : ℕ) → 2 ≤ n → n < 2 + at net 0 → isInner (netCircuit net) n ≡ not (eqb (at net (8 + (n - 2))) 1)
-inner-at net n least most =
+-- a node record is an input's if its role says so
+pub input-at : (net : List ℕ) (n : ℕ) → 2 ≤ n → n < 2 + at net 0 → isInput (netCircuit net) n ≡ eqb (at net (8 + (n - 2))) 1
+input-at net n least most =
     let e : nodeRecord (netCircuit net) n .role ≡ at net (8 + (n - 2)) = ap (λ (x : Node). x .role) (node-at net (n - 2) (omega arith)) in
-    rw (le-ltb n 2 least, le-leb 2 n least, e)
+    rw (le-leb 2 n least, e)
 
 legal-role : {letters : ℕ} {n : Node} → LegalNode letters n → n .role ≤ 1
 legal-role l = ⊎-elim (λ e. omega arith) (λ e. omega arith) (l .role-is)

@@ -3,21 +3,30 @@ ghost use mathlib.Core.Path.{_≡_};
 ghost use Prim.Native.Nat.{_+_, _<_};
 ghost use lib.ListN.{length};
 ghost use Rattle.format.specs.Circuit.{firstNodeNumber};
+ghost use Rattle.format.specs.Legal.{isInput};
 ghost use Rattle.rules.specs.State.{isInner};
 ghost use Rattle.rules.specs.Group.{betweenInner};
 ghost use Rattle.net.specs.Net.{nodesPlace, transistorsPlace, netLength, at as atPlace, netTransistor, netCircuit};
 ghost use Rattle.net.specs.Laid.{Within};
+
+// A node record with the role of an input.
+pub fn is_input(net: &[u32], n: u32) -> bool
+    requires { ⌜ (length (now net) ≡ netLength) × Within (now net) × (n < firstNodeNumber + atPlace (now net) nodesPlace) ⌝ }
+    ensures { λ r. ⌜ r ≡ isInput (netCircuit (now (net .entry))) n ⌝ }
+{
+    if n < 2 {
+        return false;
+    }
+    let role = net[crate::ROLE + (n as usize - 2)];
+    role == 1
+}
 
 // Neither a rail nor an input.
 pub fn is_inner(net: &[u32], n: u32) -> bool
     requires { ⌜ (length (now net) ≡ netLength) × Within (now net) × (n < firstNodeNumber + atPlace (now net) nodesPlace) ⌝ }
     ensures { λ r. ⌜ r ≡ isInner (netCircuit (now (net .entry))) n ⌝ }
 {
-    if n < 2 {
-        return false;
-    }
-    let role = net[crate::ROLE + (n as usize - 2)];
-    role != 1
+    !((n < 2) | is_input(net, n))
 }
 
 // Transistor i lies between two inner nodes.

@@ -14,3 +14,5 @@ pub mod Label
 pub mod Forest
 pub mod Walk
 pub mod Range
+pub mod Local
+pub mod Matrix

@@ -1,31 +1,16 @@
 -- `inner::is_inner` meets its contract. Assumes nothing.
-use borrow.Author.Tests.{lt-ltb}
-use mathlib.Core.Path.{sym}
-use Rattle.net.proofs.Laying.{inner-at}
 use borrow.Author.Needs.{needs}
+use lib.Dec.{ltb}
+use mathlib.Core.Path.{ap}
+use mathlib.Core.Bool.{Bool, not, _||_}
 use Rattle.net.proofs.inner.is_inner.Statement.{statement}
 use Rattle.net.proofs.inner.is_inner.Tie as tie
 
+is-input-requires : tie.Need-is-input-requires
+is-input-requires c κs = search needs
+
 returns : tie.Need-returns
-returns c = simp (lt-ltb _ _ (c .if1 .taken))
-
-sub-role : tie.Need-sub-role
-sub-role c = search needs
-
-add-role : tie.Need-add-role
-add-role c = search needs
-
-mul-role : tie.Need-mul-role
-mul-role c = search needs
-
-shared-slice-read-role : tie.Need-shared-slice-read-role
-shared-slice-read-role c = search needs
-
-returns-2 : tie.Need-returns-2
-returns-2 c =
-    let s = c .before .before in
-    sym (inner-at (s .args .net .now) (s .args .n) (c .before .if1 .left) (s .pre .2))
+returns c = ap (λ (b : Bool). not (ltb (c .before .before .args .n) 2 || b)) (c .is-input .ensures)
 
 pub is-inner-spec : {M : Type 1} → statement M
-is-inner-spec =
-    tie.close (tie.spec returns sub-role add-role mul-role shared-slice-read-role returns-2)
+is-inner-spec = tie.close (tie.spec is-input-requires returns)

@@ -1,0 +1,48 @@
+-- One step of the descent: the roots that matter, and what is stored by them.
+use mathlib.Core.Path.{_≡_, sym, _∙_}
+use mathlib.Core.List.{List}
+use Prim.Native.Nat.{ℕ, _-_, _≤_}
+use Rattle.diagram.specs.Table.{Table, terminalLetter, terminal}
+use Rattle.diagram.specs.Store.{add, store}
+use Rattle.diagram.specs.Call.{tableOf}
+use Rattle.net.specs.Net.{netCircuit}
+use Rattle.table.specs.declared.Put.{Put}
+use Rattle.table.specs.Holds.{columns, Outcome}
+use Rattle.functions.specs.Open.{Open}
+use Rattle.functions.proofs.Carry.{legible-sound}
+use Rattle.functions.proofs.Halving.{Halves}
+use Rattle.descent.specs.Settle.{settledAt, settledBy}
+use Rattle.descent.specs.Piece.{Narrowed}
+use Rattle.descent.specs.Descend.{Least, HalfOf, lowOf, LeafOf, Rooted}
+use Rattle.descent.proofs.Going.{narrow-ready, narrow-store, ready-leaf, leaf-store, going-left, going-halves, low-ready, high-ready}
+
+module _ {net : List ℕ} {n k : ℕ} {l w h : List ℕ} {used : ℕ} {roots : List ℕ} {left : ℕ} (r : Rooted net n k l w h used roots left)
+    {kept : List ℕ} (s : Narrowed (netCircuit net) n roots kept) {m : ℕ} (least : Least l kept m) where
+  -- the roots that matter are terminals
+  pub leaf-ready : m ≡ terminalLetter → LeafOf net n w kept
+  leaf-ready leaf = ready-leaf (narrow-ready r s) least leaf
+
+  pub leaf-stored : m ≡ terminalLetter → (time : ℕ) {u : Table} {l1 w1 h1 ix1 : List ℕ} {p : Put}
+      → Outcome u (add (terminal (settledAt (netCircuit net) time n (lowOf w kept))) u) l1 w1 h1 ix1 p
+      → Outcome u (store k 0 (settledBy (netCircuit net) time n k (tableOf (columns l w h) used) roots) u) l1 w1 h1 ix1 p
+  leaf-stored leaf time {u} o = rw (← narrow-store r s time u, leaf-store (narrow-ready r s) least leaf time u) o
+
+  module _ (node : m ≡ terminalLetter → ⊥) where
+    pub letter-left : 1 ≤ left
+    letter-left = going-left (narrow-ready r s) least node
+
+    module _ {a b : List ℕ} (low : HalfOf l w kept m a) (high : HalfOf l h kept m b) where
+      pub lows-ready : Rooted net n k l w h used a (left - 1)
+      lows-ready = low-ready (narrow-ready r s) least node low
+
+      pub highs-ready : Rooted net n k l w h used b (left - 1)
+      highs-ready = high-ready (narrow-ready r s) least node high
+
+      -- the halves make the function in an open table
+      pub halves-stored : (time : ℕ) {l1 w1 h1 ix1 : List ℕ} {used1 : ℕ} → Open k l1 w1 h1 ix1 used1
+          → Halves k (tableOf (columns l1 w1 h1) used1) m (settledBy (netCircuit net) time n k (tableOf (columns l w h) used) roots) (settledBy (netCircuit net) time n k (tableOf (columns l w h) used) a)
+          (λ _. settledBy (netCircuit net) time n k (tableOf (columns l w h) used) b)
+      halves-stored time {l1} {w1} {h1} {ix1} {used1} o =
+          let u : Table = tableOf (columns l1 w1 h1) used1 in
+          let g = going-halves (narrow-ready r s) least node low high time u (legible-sound (o .legible)) in
+          record { halved = sym (narrow-store r s time u) ∙ g .halved; stable = g .stable }

@@ -1,0 +1,10 @@
+pub mod Channels
+pub mod Settled
+pub mod Calm
+pub mod Fill
+pub mod Search
+pub mod Matters
+pub mod Narrow
+pub mod Leaf
+pub mod Going
+pub mod Descent

@@ -1,0 +1,71 @@
+-- The next change of a node for every pattern: the roots of a descent, and what their numbers at a pattern come to.
+use mathlib.Core.Path.{_≡_}
+use mathlib.Core.List.{List, map}
+use mathlib.Core.Bool.{Bool, true, cond}
+use Prim.Native.Nat.{ℕ, _<_, _≤_}
+use lib.ListN.{length, getD, take}
+use lib.Dec.{eqb}
+use Rattle.format.specs.Circuit.{Circuit}
+use Rattle.diagram.specs.Pattern.{mostLetters, patterns}
+use Rattle.diagram.specs.Table.{Table, never, numberAt}
+use Rattle.diagram.specs.Sound.{sound}
+use Rattle.rules.specs.Group.{some}
+use Rattle.rules.specs.Kept.{Channel}
+use Rattle.rules.specs.Step.{nextChange}
+use Rattle.walk.specs.Leaf.{leafLength, leafState, leafChannels}
+use Rattle.walk.specs.Ready.{Leaf, Ranged}
+
+-- the places of the roots: those of a leaf, then whether the node's group is touched, then the node's pending change
+abbrev pub touchedPlace : ℕ
+touchedPlace = 90
+
+abbrev pub pendingPlace : ℕ
+pendingPlace = 91
+
+abbrev pub rootsLength : ℕ
+rootsLength = 92
+
+-- the numbers of the roots, entries of a table, at a pattern
+abbrev pub leafAt : ℕ → Table → List ℕ → ℕ → List ℕ
+leafAt letters w roots p = map (λ (e : ℕ). numberAt letters w e p) roots
+
+abbrev pub isTouched : List ℕ → Bool
+isTouched numbers = eqb (getD numbers touchedPlace 0) 1
+
+-- the pending change once T has happened: a node whose change was T has flipped, and has none
+abbrev pub pendingAfter : ℕ → ℕ → ℕ
+pendingAfter time pending = cond (eqb pending time) never pending
+
+abbrev pub pendingOf : ℕ → List ℕ → ℕ
+pendingOf time numbers = pendingAfter time (getD numbers pendingPlace 0)
+
+-- the next change of node n by the numbers of one pattern
+unfoldable pub settledAt : Circuit → ℕ → ℕ → List ℕ → ℕ
+settledAt c time n numbers =
+    cond (isTouched numbers)
+    (nextChange c time (leafState c (pendingOf time numbers) numbers) (leafChannels c numbers) n)
+    (pendingOf time numbers)
+
+-- the same over all patterns: what a descent stores
+abbrev pub settledBy : Circuit → ℕ → ℕ → ℕ → Table → List ℕ → ℕ → ℕ
+settledBy c time n letters w roots p = settledAt c time n (leafAt letters w roots p)
+
+-- roots are entries of a sound table
+pub record Roots (letters : ℕ) (w : Table) (roots : List ℕ) : Type 0 where
+  pub few : letters ≤ mostLetters
+  pub sound : sound letters w ≡ true
+  pub long : length roots ≡ rootsLength
+  pub within : (i : ℕ) → i < rootsLength → getD roots i 0 < length w
+
+-- the numbers of a pattern are a leaf's, and the charges of its walks are small
+pub record Calm (c : Circuit) (numbers : List ℕ) : Type 0 where
+  pub leaf : Leaf c (take leafLength numbers)
+  pub charges : Ranged c (leafState c 0 numbers) (leafChannels c numbers)
+
+-- so at every pattern that is touched
+pub record AllCalm (c : Circuit) (letters : ℕ) (w : Table) (roots : List ℕ) : Type 0 where
+  pub calm : (p : ℕ) → p < patterns letters → isTouched (leafAt letters w roots p) ≡ true → Calm c (leafAt letters w roots p)
+
+-- transistor i is one of the channels
+abbrev pub isOf : List Channel → ℕ → Bool
+isOf ks i = some (λ (k : Channel). eqb (k .number) i) ks

@@ -1,0 +1,16 @@
+// The next change of a node over all patterns at once: down the letters with all roots, and the one-pattern rule where they are constants.
+// Promise: what is stored is the function that at every pattern is what the pattern's numbers settle (`settledAt`), with exactly its
+// missing entries, low part, high part, root. Where the numbers are right that is the rules' next change (proofs/Settled.antt).
+// Internal to our crates.
+pub mod descend;
+pub mod letters;
+pub mod mask;
+pub mod piece;
+pub mod settle;
+
+// The places of the roots: values of the nodes by number, kept transistors, whether the group is touched, the pending change.
+pub const KEPT: u32 = 26;
+
+pub const TOUCHED: usize = 90;
+
+pub const PENDING: usize = 91;

@@ -1,0 +1,85 @@
+// Step rule 2: whether a node's group is touched.
+use net::inner::is_inner;
+use net::inner::is_input;
+ghost use mathlib.Core.Path.{_≡_};
+ghost use mathlib.Core.Bool.{_&&_};
+ghost use Prim.Native.Nat.{_+_, _<_, _≤_};
+ghost use lib.ListN.{length, getD};
+ghost use Rattle.format.specs.Circuit.{firstNodeNumber};
+ghost use Rattle.format.specs.Legal.{isInput};
+ghost use Rattle.rules.specs.State.{State};
+ghost use Rattle.rules.specs.Group.{inGroup, ofGroup, reconsidered};
+ghost use Rattle.net.specs.Net.{nodesPlace, transistorsPlace, netTransistor, netCircuit};
+ghost use Rattle.net.specs.Laid.{Laid};
+ghost use Rattle.plain.specs.Shown.{Column, Shows, changedAt, inputChangedAt, disturbedAt};
+
+fn changed(before: &[u32], after: &[u32], n: u32) -> bool
+    requires { ⌜ (length (now before) ≡ 26) × (length (now after) ≡ 26) × (n < 26) ⌝ }
+    ensures { λ r. ⌜ r ≡ changedAt (now (before .entry)) (now (after .entry)) n ⌝ }
+{
+    before[n as usize] != after[n as usize]
+}
+
+fn input_changed(net: &[u32], before: &[u32], after: &[u32], n: u32) -> bool
+    requires { ⌜ Laid (netCircuit (now net)) (now net) ⌝ }
+    requires { ⌜ (length (now before) ≡ 26) × (length (now after) ≡ 26) × (n < firstNodeNumber + getD (now net) nodesPlace 0) ⌝ }
+    ensures { λ r. ⌜ r ≡ inputChangedAt (netCircuit (now (net .entry))) (now (before .entry)) (now (after .entry)) n ⌝ }
+{
+    is_input(net, n) & changed(before, after, n)
+}
+
+// Transistor i has a gate that changed, or an input that changed at a channel end.
+fn disturbed(net: &[u32], before: &[u32], after: &[u32], i: u32) -> bool
+    requires { ⌜ Laid (netCircuit (now net)) (now net) ⌝ }
+    requires { ⌜ (length (now before) ≡ 26) × (length (now after) ≡ 26) × (i < getD (now net) transistorsPlace 0) ⌝ }
+    ensures { λ r. ⌜ r ≡ disturbedAt (netCircuit (now (net .entry))) (now (before .entry)) (now (after .entry)) (netTransistor (now (net .entry)) i) ⌝ }
+{
+    let gate = net[net::GATE + i as usize];
+    let first = net[net::FIRST + i as usize];
+    let second = net[net::SECOND + i as usize];
+    changed(before, after, gate)
+        | input_changed(net, before, after, first)
+        | input_changed(net, before, after, second)
+}
+
+// Node m is an inner node of node n's group.
+fn in_group(net: &[u32], n: u32, m: u32) -> bool
+    requires { ⌜ Laid (netCircuit (now net)) (now net) ⌝ }
+    requires { ⌜ (firstNodeNumber ≤ n) × (n < firstNodeNumber + getD (now net) nodesPlace 0) × (m < firstNodeNumber + getD (now net) nodesPlace 0) ⌝ }
+    ensures { λ r. ⌜ r ≡ inGroup (netCircuit (now (net .entry))) n m ⌝ }
+{
+    let one = net[net::GROUP + n as usize];
+    let other = net[net::GROUP + m as usize];
+    is_inner(net, m) & (one == other)
+}
+
+// Transistor i has a channel end in node n's group.
+fn of_group(net: &[u32], n: u32, i: u32) -> bool
+    requires { ⌜ Laid (netCircuit (now net)) (now net) ⌝ }
+    requires { ⌜ (firstNodeNumber ≤ n) × (n < firstNodeNumber + getD (now net) nodesPlace 0) × (i < getD (now net) transistorsPlace 0) ⌝ }
+    ensures { λ r. ⌜ r ≡ ofGroup (netCircuit (now (net .entry))) n (netTransistor (now (net .entry)) i) ⌝ }
+{
+    let first = net[net::FIRST + i as usize];
+    let second = net[net::SECOND + i as usize];
+    in_group(net, n, first) | in_group(net, n, second)
+}
+
+// Whether a step between these values reconsiders node n.
+pub fn touched(net: &[u32], before: &[u32], after: &[u32], n: u32) -> bool
+    requires { ⌜ Laid (netCircuit (now net)) (now net) ⌝ }
+    requires { ⌜ Column (now before) × Column (now after) × (n < firstNodeNumber + getD (now net) nodesPlace 0) ⌝ }
+    ensures { λ r. ⌜ ((s t : State) → Shows (netCircuit (now (net .entry))) (now (before .entry)) s → Shows (netCircuit (now (net .entry))) (now (after .entry)) t → r ≡ reconsidered (netCircuit (now (net .entry))) s t n) ⌝ }
+{
+    if !is_inner(net, n) {
+        return false;
+    }
+    let count = net[net::TRANSISTORS];
+    let mut i: u32 = 0;
+    while i < count {
+        if of_group(net, n, i) & disturbed(net, before, after, i) {
+            return true;
+        }
+        i += 1;
+    }
+    false
+}

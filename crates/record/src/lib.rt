@@ -1,0 +1,115 @@
+// The run record as a value, and what is read off a run and its table: soundness, the time of the next step, the run question.
+// Promise: each is that of the definitions of `rules`, for the cell that the flat column lays out and the table that the columns hold.
+// Internal to our crates: a call refuses first, and shows what is required here.
+mod entries;
+mod places;
+
+use functions::numbers;
+use functions::read;
+ghost use mathlib.Core.Path.{_≡_};
+ghost use mathlib.Core.Bool.{true};
+ghost use Prim.Native.Nat.{_+_, _<_};
+ghost use Rattle.rules.specs.State.{valueAt, changeAt};
+ghost use Rattle.rules.specs.Run.{stateOf, timeAfter, runSound};
+ghost use Rattle.rules.specs.Call.{momentGiven};
+ghost use Rattle.table.specs.Holds.{columns};
+ghost use Rattle.functions.specs.Open.{Legible};
+ghost use Rattle.net.specs.Laid.{Laid};
+ghost use Rattle.net.specs.Net.{nodesPlace, lettersPlace, at, netCircuit};
+ghost use Rattle.record.specs.Record.{runOf};
+ghost use Rattle.record.specs.Numbers.{held};
+
+// The time, the used count, and for each node record the entries of its value and of its next change. Places past the node
+// records are not looked at.
+#[repr(C)]
+pub struct Run {
+    pub time: u32,
+    pub used: u32,
+    pub values: [u32; 24],
+    pub changes: [u32; 24],
+}
+
+// The answer of a run question.
+pub struct Wire {
+    pub value: u32,
+    pub change: u32,
+}
+
+// Whether a run is sound with its table.
+pub fn run_sound(net: &[u32], letter: &[u32], low: &[u32], high: &[u32], r: Run) -> bool
+    requires { ⌜ Laid (netCircuit (now net)) (now net) × Legible (at (now net) lettersPlace) (now letter) (now low) (now high) (r .used) ⌝ }
+    ensures { λ x. ⌜ x ≡ runSound (netCircuit (now (net .entry))) (held (now (letter .entry)) (now (low .entry)) (now (high .entry)) (r .used)) (runOf (netCircuit (now (net .entry))) r) ⌝ }
+{
+    let n = net[places::NODES];
+    let k = net[places::LETTERS];
+    let horizon = net[places::HORIZON];
+    let time = r.time;
+    let used = r.used;
+    let values = r.values;
+    let changes = r.changes;
+    if horizon < time {
+        return false;
+    }
+    if !entries::entries_among(letter, low, high, used, k, values, n, 0, 1, 0) {
+        return false;
+    }
+    if !entries::entries_among(
+        letter,
+        low,
+        high,
+        used,
+        k,
+        changes,
+        n,
+        time,
+        horizon,
+        numbers::NEVER,
+    ) {
+        return false;
+    }
+    places::inputs_rest(net, changes)
+}
+
+// The time of the next step, or never.
+pub fn time_after(net: &[u32], letter: &[u32], low: &[u32], high: &[u32], r: Run) -> u32
+    requires { ⌜ Laid (netCircuit (now net)) (now net) × Legible (at (now net) lettersPlace) (now letter) (now low) (now high) (r .used) × (runSound (netCircuit (now net)) (held (now letter) (now low) (now high) (r .used)) (runOf (netCircuit (now net)) r) ≡ true) ⌝ }
+    ensures { λ x. ⌜ x ≡ timeAfter (netCircuit (now (net .entry))) (momentGiven (columns (now (letter .entry)) (now (low .entry)) (now (high .entry))) (runOf (netCircuit (now (net .entry))) r)) ⌝ }
+{
+    let n = net[places::NODES];
+    let k = net[places::LETTERS];
+    let time = r.time;
+    let used = r.used;
+    let changes = r.changes;
+    let pending = entries::least_among(letter, low, high, used, k, changes, n);
+    let scheduled = places::scheduled_after(net, time);
+    numbers::least(pending, scheduled)
+}
+
+// The value and the next change of node `n` at pattern `p`; rails are among the nodes.
+pub fn wire_at(
+    net: &[u32],
+    letter: &[u32],
+    low: &[u32],
+    high: &[u32],
+    r: Run,
+    n: u32,
+    p: u32,
+) -> Wire
+    requires { ⌜ Laid (netCircuit (now net)) (now net) × Legible (at (now net) lettersPlace) (now letter) (now low) (now high) (r .used) × (runSound (netCircuit (now net)) (held (now letter) (now low) (now high) (r .used)) (runOf (netCircuit (now net)) r) ≡ true) × (n < 2 + at (now net) nodesPlace) ⌝ }
+    ensures { λ x. ⌜ (x .value ≡ valueAt (stateOf (netCircuit (now (net .entry))) (held (now (letter .entry)) (now (low .entry)) (now (high .entry)) (r .used)) (runOf (netCircuit (now (net .entry))) r) p) n) × (x .change ≡ changeAt (stateOf (netCircuit (now (net .entry))) (held (now (letter .entry)) (now (low .entry)) (now (high .entry)) (r .used)) (runOf (netCircuit (now (net .entry))) r) p) n) ⌝ }
+{
+    if n < 2 {
+        return Wire {
+            value: n,
+            change: numbers::NEVER,
+        };
+    }
+    let i = (n - 2) as usize;
+    let k = net[places::LETTERS];
+    let used = r.used;
+    let values = r.values;
+    let changes = r.changes;
+    let value = read::number(letter, low, high, used, k, values[i], p);
+    let change = read::number(letter, low, high, used, k, changes[i], p);
+    Wire { value, change }
+}

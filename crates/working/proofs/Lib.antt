@@ -1,0 +1,5 @@
+pub mod Grow
+pub mod Fill
+pub mod Linking
+pub mod Changing
+pub mod Fresh

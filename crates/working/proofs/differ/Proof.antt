@@ -1,0 +1,65 @@
+-- `differ` meets its contract: the opposite first, then the choice. Assumes nothing.
+use native.Mathlib.Omega.{arith}
+use Rattle.working.proofs.Grow.{grown-full, grown-within, grown-entry, open-operand, differ-grown}
+use Rattle.working.proofs.differ.Statement.{statement}
+use Rattle.working.proofs.differ.Tie as tie
+
+opposite-requires : tie.Need-opposite-requires
+opposite-requires c κs = (c .before .before .before .before .before .before .before .before .pre .0, c .before .before .before .before .before .before .before .before .pre .2)
+
+same-length : tie.Need-same-length
+same-length c = omega (arith, c .before .before .before .before .before .before .before .before .before .opposite .kept .0)
+
+same-length-2 : tie.Need-same-length-2
+same-length-2 c = omega (arith, c .before .before .before .before .before .before .before .before .before .opposite .kept .1 .0)
+
+same-length-3 : tie.Need-same-length-3
+same-length-3 c = omega (arith, c .before .before .before .before .before .before .before .before .before .opposite .kept .1 .1 .0)
+
+same-length-4 : tie.Need-same-length-4
+same-length-4 c = omega (arith, c .before .before .before .before .before .before .before .before .before .opposite .kept .1 .1 .1 .0)
+
+returns : tie.Need-returns
+returns c = grown-full (c .if1 .taken)
+
+choose-requires : tie.Need-choose-requires
+choose-requires c κs = (
+  c .before .before .before .before .before .before .before .before .before .before .before .before .before .opposite .ensures .opened (c .before .before .before .before .if1 .left),
+  (
+    open-operand (c .before .before .before .before .before .before .before .before .before .before .before .before .before .opposite .ensures .opened (c .before .before .before .before .if1 .left)) (grown-within (c .before .before .before .before .before .before .before .before .before .before .before .before .before .before .before .before .before .before .before .before .before .before .pre .0) (c .before .before .before .before .before .before .before .before .before .before .before .before .before .opposite .ensures) (c .before .before .before .before .if1 .left) (c .before .before .before .before .before .before .before .before .before .before .before .before .before .before .before .before .before .before .before .before .before .before .pre .1)),
+    open-operand (c .before .before .before .before .before .before .before .before .before .before .before .before .before .opposite .ensures .opened (c .before .before .before .before .if1 .left)) (grown-entry (c .before .before .before .before .before .before .before .before .before .before .before .before .before .before .before .before .before .before .before .before .before .before .pre .0) (c .before .before .before .before .before .before .before .before .before .before .before .before .before .opposite .ensures) (c .before .before .before .before .if1 .left)),
+    open-operand (c .before .before .before .before .before .before .before .before .before .before .before .before .before .opposite .ensures .opened (c .before .before .before .before .if1 .left)) (grown-within (c .before .before .before .before .before .before .before .before .before .before .before .before .before .before .before .before .before .before .before .before .before .before .pre .0) (c .before .before .before .before .before .before .before .before .before .before .before .before .before .opposite .ensures) (c .before .before .before .before .if1 .left) (c .before .before .before .before .before .before .before .before .before .before .before .before .before .before .before .before .before .before .before .before .before .before .pre .2)),
+  ),
+)
+
+same-length-5 : tie.Need-same-length-5
+same-length-5 c = omega (arith, c .before .before .before .before .before .before .before .before .before .before .before .before .before .before .before .before .before .before .before .before .before .before .opposite .kept .0, c .before .before .before .before .before .before .before .before .choose .kept .0)
+
+same-length-6 : tie.Need-same-length-6
+same-length-6 c = omega (arith, c .before .before .before .before .before .before .before .before .before .before .before .before .before .before .before .before .before .before .before .before .before .before .opposite .kept .1 .0, c .before .before .before .before .before .before .before .before .choose .kept .1 .0)
+
+same-length-7 : tie.Need-same-length-7
+same-length-7 c = omega (arith, c .before .before .before .before .before .before .before .before .before .before .before .before .before .before .before .before .before .before .before .before .before .before .opposite .kept .1 .1 .0, c .before .before .before .before .before .before .before .before .choose .kept .1 .1 .0)
+
+same-length-8 : tie.Need-same-length-8
+same-length-8 c = omega (arith, c .before .before .before .before .before .before .before .before .before .before .before .before .before .before .before .before .before .before .before .before .before .before .opposite .kept .1 .1 .1 .0, c .before .before .before .before .before .before .before .before .choose .kept .1 .1 .1 .0)
+
+returns-2 : tie.Need-returns-2
+returns-2 c = differ-grown (c .before .before .before .before .before .before .before .before .before .before .before .before .before .before .before .before .before .before .before .before .before .before .before .before .before .before .before .before .before .before .before .pre .0) (c .before .before .before .before .before .before .before .before .before .before .before .before .before .before .before .before .before .before .before .before .before .before .before .before .before .before .before .before .before .before .before .pre .1) (c .before .before .before .before .before .before .before .before .before .before .before .before .before .before .before .before .before .before .before .before .before .before .before .before .before .before .before .before .before .before .before .pre .2) (c .before .before .before .before .before .before .before .before .before .before .before .before .before .before .before .before .before .before .before .before .before .before .opposite .ensures) (c .before .before .before .before .before .before .before .before .before .before .before .before .before .if1 .left) (c .before .before .before .before .before .before .before .before .choose .ensures)
+
+pub differ-spec : {M : Type 1} → statement M
+differ-spec =
+    tie.close
+    (tie.spec
+    opposite-requires
+    same-length
+    same-length-2
+    same-length-3
+    same-length-4
+    returns
+    choose-requires
+    same-length-5
+    same-length-6
+    same-length-7
+    same-length-8
+    returns-2)

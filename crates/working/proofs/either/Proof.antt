@@ -1,0 +1,27 @@
+-- `either` meets its contract. A choice with entry 1. Assumes nothing.
+use native.Mathlib.Omega.{arith}
+use borrow.Author.Needs.{needs}
+use Rattle.working.proofs.Grow.{open-three, open-operand, either-grown}
+use Rattle.working.proofs.either.Statement.{statement}
+use Rattle.working.proofs.either.Tie as tie
+
+choose-requires : tie.Need-choose-requires
+choose-requires c κs = (c .before .before .before .before .before .before .before .before .pre .0, (open-operand (c .before .before .before .before .before .before .before .before .pre .0) (c .before .before .before .before .before .before .before .before .pre .1), open-operand (c .before .before .before .before .before .before .before .before .pre .0) (omega (arith, open-three (c .before .before .before .before .before .before .before .before .pre .0))), open-operand (c .before .before .before .before .before .before .before .before .pre .0) (c .before .before .before .before .before .before .before .before .pre .2)))
+
+same-length : tie.Need-same-length
+same-length c = search needs
+
+same-length-2 : tie.Need-same-length-2
+same-length-2 c = search needs
+
+same-length-3 : tie.Need-same-length-3
+same-length-3 c = search needs
+
+same-length-4 : tie.Need-same-length-4
+same-length-4 c = search needs
+
+returns : tie.Need-returns
+returns c = either-grown (c .before .before .before .before .before .before .before .before .before .before .before .before .before .before .before .before .before .pre .0) _ _ (c .before .before .before .before .before .before .before .before .choose .ensures)
+
+pub either-spec : {M : Type 1} → statement M
+either-spec = tie.close (tie.spec choose-requires same-length same-length-2 same-length-3 same-length-4 returns)

@@ -1,0 +1,27 @@
+-- `opposite` meets its contract. A choice of entries 0 and 1. Assumes nothing.
+use native.Mathlib.Omega.{arith}
+use borrow.Author.Needs.{needs}
+use Rattle.working.proofs.Grow.{open-three, open-operand, opposite-grown}
+use Rattle.working.proofs.opposite.Statement.{statement}
+use Rattle.working.proofs.opposite.Tie as tie
+
+choose-requires : tie.Need-choose-requires
+choose-requires c κs = (c .before .before .before .before .before .before .before .before .pre .0, (open-operand (c .before .before .before .before .before .before .before .before .pre .0) (c .before .before .before .before .before .before .before .before .pre .1), open-operand (c .before .before .before .before .before .before .before .before .pre .0) (omega (arith, open-three (c .before .before .before .before .before .before .before .before .pre .0))), open-operand (c .before .before .before .before .before .before .before .before .pre .0) (omega (arith, open-three (c .before .before .before .before .before .before .before .before .pre .0)))))
+
+same-length : tie.Need-same-length
+same-length c = search needs
+
+same-length-2 : tie.Need-same-length-2
+same-length-2 c = search needs
+
+same-length-3 : tie.Need-same-length-3
+same-length-3 c = search needs
+
+same-length-4 : tie.Need-same-length-4
+same-length-4 c = search needs
+
+returns : tie.Need-returns
+returns c = opposite-grown (c .before .before .before .before .before .before .before .before .before .before .before .before .before .before .before .before .before .pre .0) _ (c .before .before .before .before .before .before .before .before .choose .ensures)
+
+pub opposite-spec : {M : Type 1} → statement M
+opposite-spec = tie.close (tie.spec choose-requires same-length same-length-2 same-length-3 same-length-4 returns)

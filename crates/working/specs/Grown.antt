@@ -1,0 +1,31 @@
+-- Entries of the working table by what they mean, and what a function that makes one leaves.
+use mathlib.Core.Path.{_≡_}
+use mathlib.Core.List.{List}
+use mathlib.Core.Bool.{Bool, false, cond}
+use Prim.Native.Nat.{ℕ, _<_}
+use lib.ListN.{length}
+use Rattle.diagram.specs.Pattern.{patterns}
+use Rattle.diagram.specs.Table.{Table, numberAt}
+use Rattle.diagram.specs.Call.{tableOf}
+use Rattle.diagram.proofs.Add.{Extends}
+use Rattle.table.specs.declared.Put.{Put}
+use Rattle.table.specs.Holds.{columns}
+use Rattle.functions.specs.Open.{Open}
+
+-- entry e has the numbers of a function
+pub record Means (letters : ℕ) (t : Table) (e : ℕ) (f : ℕ → ℕ) : Type 0 where
+  pub within : e < length t
+  pub number : (p : ℕ) → p < patterns letters → numberAt letters t e p ≡ f p
+
+abbrev pub bit : Bool → ℕ
+bit b = cond b 1 0
+
+-- entry e is 1 where a test passes, else 0
+abbrev pub Is : ℕ → Table → ℕ → (ℕ → Bool) → Type 0
+Is letters t e test = Means letters t e (λ p. bit (test p))
+
+-- the answer is full; or the columns hold a sound extension of the table t, in which the entry has the numbers of a function
+pub record Grown (letters : ℕ) (t : Table) (f : ℕ → ℕ) (l w h ix : List ℕ) (r : Put) : Type 0 where
+  pub opened : r .full ≡ false → Open letters l w h ix (r .used)
+  pub extends : r .full ≡ false → Extends t (tableOf (columns l w h) (r .used))
+  pub means : r .full ≡ false → Means letters (tableOf (columns l w h) (r .used)) (r .entry) f
