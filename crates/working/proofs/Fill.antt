@@ -30,7 +30,7 @@ upTo n new old m p = cond (ltb m n) (new m p) (old m p)
 up-same : (n : ℕ) (new old : ℕ → ℕ → ℕ) (p : ℕ) → new n p ≡ upTo (n + 1) new old n p
 up-same n new old p = rw (lt-ltb n (n + 1) (omega arith))
 
-up-other : (n m : ℕ) → (m ≡ n → ⊥) → ltb m n ≡ ltb m (n + 1)
+pub up-other : (n m : ℕ) → (m ≡ n → ⊥) → ltb m n ≡ ltb m (n + 1)
 up-other n m ne =
     ⊎-elim
     (λ (h : m < n). lt-ltb m n h ∙ sym (lt-ltb m (n + 1) (omega arith)))

@@ -1,0 +1,5 @@
+pub mod Reading
+pub mod Touching
+pub mod Keeping
+pub mod Placing
+pub mod Assembly

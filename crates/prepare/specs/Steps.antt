@@ -1,0 +1,94 @@
+-- What each part of preparing a step works out, number by number.
+use mathlib.Core.Path.{_≡_}
+use mathlib.Core.List.{List}
+use mathlib.Core.Bool.{Bool, not, _&&_, _||_, cond}
+use Prim.Native.Nat.{ℕ, _+_, _<_, _≤_}
+use lib.ListN.{getD}
+use lib.Dec.{ltb, eqb}
+use Rattle.format.specs.declared.Transistor.{Transistor}
+use Rattle.format.specs.Circuit.{Circuit, firstNodeNumber}
+use Rattle.format.specs.Legal.{isInput}
+use Rattle.diagram.specs.Pattern.{patterns}
+use Rattle.diagram.specs.Table.{Table, numberAt}
+use Rattle.diagram.specs.Call.{tableOf}
+use Rattle.diagram.proofs.Add.{Extends}
+use Rattle.table.specs.Holds.{columns}
+use Rattle.functions.specs.Open.{Open}
+use Rattle.working.specs.Grown.{bit}
+use Rattle.working.specs.Many.{cell, AllUsed}
+use Rattle.rules.specs.State.{State, valueAt, isInner}
+use Rattle.rules.specs.Group.{labelAt, groups, some}
+use Rattle.rules.proofs.Matrix.{isHeld, matrixAt, transistorAt}
+
+-- a state has the values that entries, by node number, take at a pattern
+abbrev pub Shows : ℕ → Table → List ℕ → ℕ → ℕ → State → Type 0
+Shows letters t entries nodes p s = (n : ℕ) → n < firstNodeNumber + nodes → valueAt s n ≡ numberAt letters t (getD entries n 0) p
+
+-- entries, by node number, that are 0 or 1 at every pattern
+abbrev pub Bits : ℕ → Table → List ℕ → ℕ → Type 0
+Bits letters t entries count = (n p : ℕ) → n < count → p < patterns letters → numberAt letters t (getD entries n 0) p ≤ 1
+
+-- the entry is 1 at a pattern
+abbrev pub one : ℕ → Table → ℕ → ℕ → Bool
+one letters t e p = eqb (numberAt letters t e p) 1
+
+-- the label of the group of a transistor, 0 where no end is inner
+abbrev pub groupOf : Circuit → Transistor → ℕ
+groupOf c t = cond (isInner c (t .first)) (labelAt (groups c) (t .first)) (cond (isInner c (t .second)) (labelAt (groups c) (t .second)) 0)
+
+-- a transistor of the group with a label
+abbrev pub ofLabel : Circuit → ℕ → Transistor → Bool
+ofLabel c g t = (isInner c (t .first) && eqb g (labelAt (groups c) (t .first))) || (isInner c (t .second) && eqb g (labelAt (groups c) (t .second)))
+
+-- rule 2 for one transistor, over the nodes that changed
+abbrev pub disturbedBy : Circuit → (ℕ → Bool) → Transistor → Bool
+disturbedBy c changed t = changed (t .gate) || (isInput c (t .first) && changed (t .first)) || (isInput c (t .second) && changed (t .second))
+
+-- every group, or one
+abbrev pub considered : ℕ → ℕ → Bool
+considered only g = eqb only 0 || eqb g only
+
+-- a considered group is touched by one of some transistors
+abbrev pub touchedBy : Circuit → ℕ → (ℕ → Bool) → List Transistor → ℕ → Bool
+touchedBy c only changed ts g = some (λ (t : Transistor). considered only g && ofLabel c g t && disturbedBy c changed t) ts
+
+-- node n has other numbers at a pattern, by the entries before and after
+abbrev pub differs : ℕ → ℕ → Table → List ℕ → List ℕ → ℕ → ℕ → Bool
+differs count letters t before after p n = ltb n count && not (eqb (numberAt letters t (getD before n 0) p) (numberAt letters t (getD after n 0) p))
+
+-- the group with a label is touched at a pattern: everywhere where `all`
+abbrev pub touchedLabel : Circuit → ℕ → ℕ → Table → List ℕ → List ℕ → Bool → ℕ → ℕ → ℕ → Bool
+touchedLabel c count letters t before after all only p g =
+    cond all (not (eqb g 0) && considered only g) (touchedBy c only (differs count letters t before after p) (c .transistors) g)
+
+-- an n conducts where its gate is 1, a p where it is not
+abbrev pub conductsNumber : (polarity gate : ℕ) → ℕ
+conductsNumber polarity gate = cond (eqb polarity 1) (cond (eqb gate 1) 0 1) gate
+
+-- kept: touched, conducting, and not joined already where both ends are inner
+abbrev pub keptNumber : (polarity : ℕ) (between : Bool) (touched gate joined : ℕ) → ℕ
+keptNumber polarity between touched gate joined =
+    cond between (cond (eqb joined 1) 0 (cond (eqb touched 1) (conductsNumber polarity gate) 0)) (cond (eqb touched 1) (conductsNumber polarity gate) 0)
+
+-- the groups that are touched at a pattern, by transistor number
+abbrev pub lookedAt : Circuit → ℕ → Table → List ℕ → ℕ → ℕ → Bool
+lookedAt c letters t touched p i = one letters t (getD touched (groupOf c (transistorAt c i)) 0) p
+
+-- the first `count` transistors gone through: their kept functions, and the matrix after them
+pub record Keeping (c : Circuit) (nodes letters : ℕ) (t : Table) (values touched : List ℕ) (count : ℕ) (l w h ix : List ℕ) (used : ℕ) (kept : List ℕ) (joined : List (List ℕ)) : Type 0 where
+  pub opened : Open letters l w h ix used
+  pub extends : Extends t (tableOf (columns l w h) used)
+  pub kept-used : AllUsed 64 kept used
+  pub joined-used : (x y : ℕ) → x < 24 → y < 24 → cell joined x y < used
+  pub kept-is : (i p : ℕ) (s : State) → i < count → p < patterns letters → Shows letters t values nodes p s
+      → numberAt letters (tableOf (columns l w h) used) (getD kept i 0) p ≡ bit (isHeld c s (lookedAt c letters t touched p) i)
+  pub joined-is : (x y p : ℕ) (s : State) → x < 24 → y < 24 → p < patterns letters → Shows letters t values nodes p s
+      → numberAt letters (tableOf (columns l w h) used) (cell joined x y) p ≡ bit (matrixAt c s (lookedAt c letters t touched p) count (x + 2) (y + 2))
+
+-- the kept functions of all transistors
+pub record KeptAll (c : Circuit) (nodes letters : ℕ) (t : Table) (values touched : List ℕ) (count : ℕ) (l w h ix : List ℕ) (used : ℕ) (kept : List ℕ) : Type 0 where
+  pub opened : Open letters l w h ix used
+  pub extends : Extends t (tableOf (columns l w h) used)
+  pub kept-used : AllUsed 64 kept used
+  pub kept-is : (i p : ℕ) (s : State) → i < count → p < patterns letters → Shows letters t values nodes p s
+      → numberAt letters (tableOf (columns l w h) used) (getD kept i 0) p ≡ bit (isHeld c s (lookedAt c letters t touched p) i)

@@ -1,0 +1,207 @@
+// Rule 3: the kept functions of the transistors, by rising number, with the matrix of joined-functions.
+ghost use mathlib.Core.Path.{_≡_};
+ghost use mathlib.Core.Bool.{false, cond};
+ghost use Prim.Native.Nat.{ℕ, _+_, _-_, _<_};
+ghost use lib.ListN.{getD};
+ghost use lib.Dec.{eqb};
+ghost use Rattle.format.specs.Circuit.{firstNodeNumber};
+ghost use Rattle.diagram.specs.Table.{numberAt};
+ghost use Rattle.functions.specs.Open.{Open};
+ghost use Rattle.working.specs.Grown.{bit, Grown};
+ghost use Rattle.working.specs.Many.{held, AllUsed, cell, Matrixed, linkedNumber};
+ghost use Rattle.rules.specs.Group.{betweenInner};
+ghost use Rattle.net.specs.Net.{nodesPlace, transistorsPlace, at as atPlace, netTransistor, netCircuit};
+ghost use Rattle.net.specs.Laid.{Laid};
+ghost use Rattle.prepare.specs.Steps.{Bits, groupOf, conductsNumber, keptNumber, KeptAll};
+use crate::touch::group_of;
+use net::inner::between_inner;
+use table::Put;
+use working::both;
+use working::link::link;
+use working::opposite;
+use working::without;
+
+// The kept functions by transistor number, unless there was no room.
+pub struct Kept {
+    pub full: bool,
+    pub used: u32,
+    pub entries: [u32; 64],
+}
+
+// Where transistor i conducts: an n where its gate is 1, a p where it is not.
+fn conducts(
+    net: &[u32],
+    values: [u32; 26],
+    letter: &mut [u32],
+    low: &mut [u32],
+    high: &mut [u32],
+    index: &mut [u32],
+    used: u32,
+    k: u32,
+    i: u32,
+) -> Put
+    requires { ⌜ Laid (netCircuit (now net)) (now net) × (i < atPlace (now net) transistorsPlace) ⌝ }
+    requires { ⌜ Open k (now letter) (now low) (now high) (now index) used × AllUsed 26 values used ⌝ }
+    ensures { λ r. ⌜ Grown k (held (now (letter .entry)) (now (low .entry)) (now (high .entry)) used) (λ p. conductsNumber (netTransistor (now (net .entry)) i .polarity) (numberAt k (held (now (letter .entry)) (now (low .entry)) (now (high .entry)) used) (getD values (netTransistor (now (net .entry)) i .gate) 0) p)) (now (letter .exit)) (now (low .exit)) (now (high .exit)) (now (index .exit)) r ⌝ }
+{
+    let at = i as usize;
+    let gate = net[net::GATE + at] as usize;
+    let v = values[gate];
+    if net[net::POLARITY + at] == 1 {
+        return opposite(letter, low, high, index, used, k, v);
+    }
+    Put {
+        full: false,
+        entry: v,
+        used,
+    }
+}
+
+// Transistor i is kept where it is touched and conducts, unless its ends are inner nodes that are joined already.
+fn keep(
+    net: &[u32],
+    values: [u32; 26],
+    touched: [u32; 26],
+    joined: [[u32; 24]; 24],
+    letter: &mut [u32],
+    low: &mut [u32],
+    high: &mut [u32],
+    index: &mut [u32],
+    used: u32,
+    k: u32,
+    i: u32,
+) -> Put
+    requires { ⌜ Laid (netCircuit (now net)) (now net) × (i < atPlace (now net) transistorsPlace) ⌝ }
+    requires { ⌜ Open k (now letter) (now low) (now high) (now index) used × AllUsed 26 values used × AllUsed 26 touched used × ((x y : ℕ) → x < 24 → y < 24 → cell joined x y < used) ⌝ }
+    ensures { λ r. ⌜ Grown k (held (now (letter .entry)) (now (low .entry)) (now (high .entry)) used) (λ p. keptNumber (netTransistor (now (net .entry)) i .polarity) (betweenInner (netCircuit (now (net .entry))) (netTransistor (now (net .entry)) i)) (numberAt k (held (now (letter .entry)) (now (low .entry)) (now (high .entry)) used) (getD touched (groupOf (netCircuit (now (net .entry))) (netTransistor (now (net .entry)) i)) 0) p) (numberAt k (held (now (letter .entry)) (now (low .entry)) (now (high .entry)) used) (getD values (netTransistor (now (net .entry)) i .gate) 0) p) (numberAt k (held (now (letter .entry)) (now (low .entry)) (now (high .entry)) used) (cell joined (netTransistor (now (net .entry)) i .first - 2) (netTransistor (now (net .entry)) i .second - 2)) p)) (now (letter .exit)) (now (low .exit)) (now (high .exit)) (now (index .exit)) r ⌝ }
+{
+    let g = group_of(net, i);
+    let e = touched[g];
+    if e == 0 {
+        return Put {
+            full: false,
+            entry: 0,
+            used,
+        };
+    }
+    let p = conducts(net, values, letter, low, high, index, used, k, i);
+    if p.full {
+        return p;
+    }
+    let q = both(letter, low, high, index, p.used, k, e, p.entry);
+    if q.full {
+        return q;
+    }
+    if !between_inner(net, i) {
+        return q;
+    }
+    let at = i as usize;
+    let a = net[net::FIRST + at] as usize - 2;
+    let b = net[net::SECOND + at] as usize - 2;
+    without(letter, low, high, index, q.used, k, q.entry, joined[a][b])
+}
+
+// The matrix after transistor i. No room: `used` becomes 0.
+fn link_kept(
+    net: &[u32],
+    letter: &mut [u32],
+    low: &mut [u32],
+    high: &mut [u32],
+    index: &mut [u32],
+    used: &mut u32,
+    k: u32,
+    i: u32,
+    kept: u32,
+    joined: [[u32; 24]; 24],
+) -> [[u32; 24]; 24]
+    requires { ⌜ Laid (netCircuit (now net)) (now net) × (i < atPlace (now net) transistorsPlace) ⌝ }
+    requires { ⌜ Open k (now letter) (now low) (now high) (now index) (now used) × (kept < now used) × ((x y : ℕ) → x < 24 → y < 24 → cell joined x y < now used) ⌝ }
+    ensures { λ r. ⌜ ((now (used .exit) ≡ 0 → ⊥) → Matrixed k (held (now (letter .entry)) (now (low .entry)) (now (high .entry)) (now (used .entry))) (λ x y p. cond (betweenInner (netCircuit (now (net .entry))) (netTransistor (now (net .entry)) i)) (linkedNumber (numberAt k (held (now (letter .entry)) (now (low .entry)) (now (high .entry)) (now (used .entry))) kept p) (numberAt k (held (now (letter .entry)) (now (low .entry)) (now (high .entry)) (now (used .entry))) (cell joined x y) p) (numberAt k (held (now (letter .entry)) (now (low .entry)) (now (high .entry)) (now (used .entry))) (cell joined x (netTransistor (now (net .entry)) i .first - 2)) p) (numberAt k (held (now (letter .entry)) (now (low .entry)) (now (high .entry)) (now (used .entry))) (cell joined (netTransistor (now (net .entry)) i .second - 2) y) p) (numberAt k (held (now (letter .entry)) (now (low .entry)) (now (high .entry)) (now (used .entry))) (cell joined x (netTransistor (now (net .entry)) i .second - 2)) p) (numberAt k (held (now (letter .entry)) (now (low .entry)) (now (high .entry)) (now (used .entry))) (cell joined (netTransistor (now (net .entry)) i .first - 2) y) p)) (numberAt k (held (now (letter .entry)) (now (low .entry)) (now (high .entry)) (now (used .entry))) (cell joined x y) p)) (now (letter .exit)) (now (low .exit)) (now (high .exit)) (now (index .exit)) (now (used .exit)) r) ⌝ }
+{
+    if kept == 0 {
+        return joined;
+    }
+    if !between_inner(net, i) {
+        return joined;
+    }
+    let at = i as usize;
+    let a = net[net::FIRST + at] as usize - 2;
+    let b = net[net::SECOND + at] as usize - 2;
+    link(letter, low, high, index, used, k, kept, a, b, joined)
+}
+
+// At first each node is joined to itself alone.
+fn identity() -> [[u32; 24]; 24]
+    ensures { λ r. ⌜ ((x y : ℕ) → x < 24 → y < 24 → cell r x y ≡ bit (eqb x y)) ⌝ }
+{
+    let mut out = [[0u32; 24]; 24];
+    let mut x = 0;
+    while x < 24 {
+        out[x][x] = 1;
+        x += 1;
+    }
+    out
+}
+
+// The kept functions of all transistors, by rising number.
+pub fn keep_all(
+    net: &[u32],
+    values: [u32; 26],
+    touched: [u32; 26],
+    letter: &mut [u32],
+    low: &mut [u32],
+    high: &mut [u32],
+    index: &mut [u32],
+    used: u32,
+    k: u32,
+) -> Kept
+    requires { ⌜ Laid (netCircuit (now net)) (now net) ⌝ }
+    requires { ⌜ Open k (now letter) (now low) (now high) (now index) used × AllUsed 26 values used × AllUsed 26 touched used × Bits k (held (now letter) (now low) (now high) used) values (firstNodeNumber + atPlace (now net) nodesPlace) ⌝ }
+    ensures { λ r. ⌜ (r .full ≡ false → KeptAll (netCircuit (now (net .entry))) (atPlace (now (net .entry)) nodesPlace) k (held (now (letter .entry)) (now (low .entry)) (now (high .entry)) used) values touched (atPlace (now (net .entry)) transistorsPlace) (now (letter .exit)) (now (low .exit)) (now (high .exit)) (now (index .exit)) (r .used) (r .entries)) ⌝ }
+{
+    let count = net[net::TRANSISTORS];
+    let mut joined = identity();
+    let mut out = [0u32; 64];
+    let mut now = used;
+    let mut i: u32 = 0;
+    while i < count {
+        let p = keep(
+            net,
+            values,
+            touched,
+            joined,
+            letter,
+            low,
+            high,
+            index,
+            now,
+            k,
+            i,
+        );
+        if p.full {
+            return Kept {
+                full: true,
+                used,
+                entries: out,
+            };
+        }
+        let e = p.entry;
+        out[i as usize] = e;
+        now = p.used;
+        let next = link_kept(net, letter, low, high, index, &mut now, k, i, e, joined);
+        if now == 0 {
+            return Kept {
+                full: true,
+                used,
+                entries: out,
+            };
+        }
+        joined = next;
+        i += 1;
+    }
+    Kept {
+        full: false,
+        used: now,
+        entries: out,
+    }
+}

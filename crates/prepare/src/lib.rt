@@ -1,0 +1,181 @@
+// What a step works out before its descents, as entries of the working table: the roots of a step (specs/Roots.antt).
+// Promise: values and next changes are those of the lent table; touched and kept functions are rules 2 and 3 at every pattern.
+// No room in the working table is an ordinary answer.
+ghost use mathlib.Core.Path.{_≡_};
+ghost use mathlib.Core.Bool.{true, false, cond};
+ghost use Prim.Native.Nat.{_+_, _<_};
+ghost use lib.ListN.{getD};
+ghost use Rattle.format.specs.Circuit.{firstNodeNumber};
+ghost use Rattle.table.specs.Holds.{Sized};
+ghost use Rattle.functions.specs.Open.{Legible};
+ghost use Rattle.working.specs.Many.{held, AllUsed};
+ghost use Rattle.rules.specs.State.{isInner};
+ghost use Rattle.rules.specs.Group.{labelAt, groups};
+ghost use Rattle.net.specs.Net.{nodesPlace, at as atPlace, netCircuit};
+ghost use Rattle.net.specs.Laid.{Laid};
+ghost use Rattle.prepare.specs.Steps.{Bits};
+ghost use Rattle.prepare.specs.Roots.{NodeRoots, KeptRoots, Roots};
+
+pub mod keep;
+pub mod touch;
+
+use keep::keep_all;
+use net::inner::is_inner;
+use touch::touch_all;
+use working::begin;
+use working::many::bring_all;
+
+// The roots of a step, unless the working table had no room: at n the value of node n, at 26 + i the kept function of transistor i,
+// at 90 + n the touched function of node n, at 116 + n its next change.
+pub struct Prepared {
+    pub full: bool,
+    pub used: u32,
+    pub roots: [u32; 142],
+}
+
+fn no_room() -> Prepared
+    ensures { λ r. ⌜ r .full ≡ true ⌝ }
+{
+    Prepared {
+        full: true,
+        used: 0,
+        roots: [0u32; 142],
+    }
+}
+
+// The touched function of node n: that of its group, 0 for a node that is not inner.
+fn touched_of(net: &[u32], touched: [u32; 26], n: usize) -> u32
+    requires { ⌜ Laid (netCircuit (now net)) (now net) × (n < firstNodeNumber + atPlace (now net) nodesPlace) ⌝ }
+    ensures { λ r. ⌜ r ≡ cond (isInner (netCircuit (now (net .entry))) n) (getD touched (labelAt (groups (netCircuit (now (net .entry)))) n) 0) 0 ⌝ }
+{
+    if !is_inner(net, n as u32) {
+        return 0;
+    }
+    let g = net[net::GROUP + n] as usize;
+    touched[g]
+}
+
+// The roots of the nodes in their places.
+fn node_roots(net: &[u32], values: [u32; 26], touched: [u32; 26], waiting: [u32; 26]) -> [u32; 142]
+    requires { ⌜ Laid (netCircuit (now net)) (now net) ⌝ }
+    ensures { λ r. ⌜ NodeRoots (netCircuit (now (net .entry))) (atPlace (now (net .entry)) nodesPlace) values touched waiting (firstNodeNumber + atPlace (now (net .entry)) nodesPlace) r ⌝ }
+{
+    let count = net[net::NODES] as usize + 2;
+    let mut out = [0u32; 142];
+    let mut n = 0;
+    while n < count {
+        out[n] = values[n];
+        out[90 + n] = touched_of(net, touched, n);
+        out[116 + n] = waiting[n];
+        n += 1;
+    }
+    out
+}
+
+// The kept functions in their places.
+fn kept_roots(roots: [u32; 142], kept: [u32; 64]) -> [u32; 142]
+    ensures { λ r. ⌜ KeptRoots roots kept 64 r ⌝ }
+{
+    let mut out = roots;
+    let mut i = 0;
+    while i < 64 {
+        out[26 + i] = kept[i];
+        i += 1;
+    }
+    out
+}
+
+// Prepares a step: `before`, `after` and `pending` are entries of the lent table by node number; `only` is the label of one group, 0 for all.
+pub fn prepare(
+    net: &[u32],
+    tletter: &[u32],
+    tlow: &[u32],
+    thigh: &[u32],
+    tused: u32,
+    letter: &mut [u32],
+    low: &mut [u32],
+    high: &mut [u32],
+    index: &mut [u32],
+    k: u32,
+    before: [u32; 26],
+    after: [u32; 26],
+    pending: [u32; 26],
+    all: bool,
+    only: usize,
+) -> Prepared
+    requires { ⌜ Laid (netCircuit (now net)) (now net) × Legible k (now tletter) (now tlow) (now thigh) tused × Sized (now letter) (now low) (now high) (now index) ⌝ }
+    requires { ⌜ AllUsed (firstNodeNumber + atPlace (now net) nodesPlace) before tused × AllUsed (firstNodeNumber + atPlace (now net) nodesPlace) after tused × AllUsed (firstNodeNumber + atPlace (now net) nodesPlace) pending tused × Bits k (held (now tletter) (now tlow) (now thigh) tused) before (firstNodeNumber + atPlace (now net) nodesPlace) × Bits k (held (now tletter) (now tlow) (now thigh) tused) after (firstNodeNumber + atPlace (now net) nodesPlace) ⌝ }
+    ensures { λ r. ⌜ (r .full ≡ false → Roots (now (net .entry)) k (held (now (tletter .entry)) (now (tlow .entry)) (now (thigh .entry)) tused) before after pending all only (now (letter .exit)) (now (low .exit)) (now (high .exit)) (now (index .exit)) (r .used) (r .roots)) ⌝ }
+{
+    begin(letter, low, high, index, k);
+    let count = net[net::NODES] as usize + 2;
+    let v = bring_all(
+        tletter,
+        tlow,
+        thigh,
+        tused,
+        letter,
+        low,
+        high,
+        index,
+        3,
+        k,
+        after,
+        count,
+    );
+    if v.full {
+        return no_room();
+    }
+    let values = v.entries;
+    let w = bring_all(
+        tletter,
+        tlow,
+        thigh,
+        tused,
+        letter,
+        low,
+        high,
+        index,
+        v.used,
+        k,
+        pending,
+        count,
+    );
+    if w.full {
+        return no_room();
+    }
+    let waiting = w.entries;
+    let t = touch_all(
+        net,
+        tletter,
+        tlow,
+        thigh,
+        tused,
+        letter,
+        low,
+        high,
+        index,
+        w.used,
+        k,
+        before,
+        after,
+        values,
+        all,
+        only,
+    );
+    if t.full {
+        return no_room();
+    }
+    let touched = t.entries;
+    let q = keep_all(net, values, touched, letter, low, high, index, t.used, k);
+    if q.full {
+        return no_room();
+    }
+    let kept = q.entries;
+    let nodes = node_roots(net, values, touched, waiting);
+    Prepared {
+        full: false,
+        used: q.used,
+        roots: kept_roots(nodes, kept),
+    }
+}
