@@ -1,0 +1,147 @@
+// Step rule 1 for all patterns: inputs scheduled at T take their source, inner nodes flip where their next change is T.
+use crate::Many;
+use crate::source::source;
+use diagram::Operation;
+use functions::apply::apply;
+use net::inner::is_input;
+use record::Run;
+use table::Put;
+ghost use mathlib.Core.Path.{_≡_};
+ghost use mathlib.Core.Bool.{true};
+ghost use mathlib.Core.List.{map};
+ghost use Prim.Native.Nat.{ℕ, _+_, _<_};
+ghost use Rattle.diagram.specs.Store.{store};
+ghost use Rattle.diagram.specs.Table.{numberAt};
+ghost use Rattle.diagram.specs.Call.{tableOf};
+ghost use Rattle.table.specs.Holds.{columns, Outcome};
+ghost use Rattle.functions.specs.Open.{Open};
+ghost use Rattle.rules.specs.State.{valueAt, nodeNumbers};
+ghost use Rattle.rules.specs.Arrive.{scheduled};
+ghost use Rattle.rules.specs.Step.{stepped};
+ghost use Rattle.rules.specs.Run.{storeAll, stateOf, runSound};
+ghost use Rattle.record.specs.Record.{runOf};
+ghost use Rattle.net.specs.Net.{lettersPlace, at as atPlace, netCircuit};
+ghost use Rattle.net.specs.Laid.{Laid};
+ghost use Rattle.values.specs.All.{OutcomeAll};
+
+// No source byte is as large.
+const NONE: u32 = 256;
+
+// The source that input n takes at `time`, or none.
+fn source_at(net: &[u32], time: u32, n: u32) -> u32 {
+    let count = net[net::ENTRIES] as usize;
+    let mut i = 0;
+    while i < count {
+        if (net[net::TIME + i] == time) & (net[net::INPUT + i] == n) {
+            return net[net::SOURCE + i];
+        }
+        i += 1;
+    }
+    NONE
+}
+
+// The value of input n after T: its source where one is scheduled, else the present entry.
+fn input_value(
+    net: &[u32],
+    letter: &mut [u32],
+    low: &mut [u32],
+    high: &mut [u32],
+    index: &mut [u32],
+    used: u32,
+    time: u32,
+    n: u32,
+    value: u32,
+) -> Put {
+    let byte = source_at(net, time, n);
+    if byte == NONE {
+        return Put {
+            full: false,
+            entry: value,
+            used,
+        };
+    }
+    source(letter, low, high, index, used, net[net::LETTERS], byte)
+}
+
+// The value of node n after T.
+fn value_after(
+    net: &[u32],
+    letter: &mut [u32],
+    low: &mut [u32],
+    high: &mut [u32],
+    index: &mut [u32],
+    used: u32,
+    time: u32,
+    n: u32,
+    value: u32,
+    change: u32,
+) -> Put {
+    if is_input(net, n) {
+        return input_value(net, letter, low, high, index, used, time, n, value);
+    }
+    let k = net[net::LETTERS];
+    apply(
+        letter,
+        low,
+        high,
+        index,
+        used,
+        k,
+        Operation::Flip(time),
+        value,
+        change,
+        k,
+    )
+}
+
+// The values after all of T, in node order.
+pub fn arrive(
+    net: &[u32],
+    letter: &mut [u32],
+    low: &mut [u32],
+    high: &mut [u32],
+    index: &mut [u32],
+    r: Run,
+    time: u32,
+) -> Many
+    requires { ⌜ Laid (netCircuit (now net)) (now net) × Open (atPlace (now net) lettersPlace) (now letter) (now low) (now high) (now index) (r .used) ⌝ }
+    requires { ⌜ runSound (netCircuit (now net)) (tableOf (columns (now letter) (now low) (now high)) (r .used)) (runOf (netCircuit (now net)) r) ≡ true ⌝ }
+    ensures { λ x. ⌜ OutcomeAll (tableOf (columns (now (letter .entry)) (now (low .entry)) (now (high .entry))) (r .used)) (storeAll (atPlace (now (net .entry)) lettersPlace) (map (λ (n : ℕ) (p : ℕ). valueAt (stepped (netCircuit (now (net .entry))) time p (stateOf (netCircuit (now (net .entry))) (tableOf (columns (now (letter .entry)) (now (low .entry)) (now (high .entry))) (r .used)) (runOf (netCircuit (now (net .entry))) r) p)) n) (nodeNumbers (netCircuit (now (net .entry))))) (tableOf (columns (now (letter .entry)) (now (low .entry)) (now (high .entry))) (r .used))) (now (letter .exit)) (now (low .exit)) (now (high .exit)) (now (index .exit)) (x .full) (x .used) (x .entries) ⌝ }
+{
+    let count = net[net::NODES] as usize;
+    let values = r.values;
+    let changes = r.changes;
+    let mut out = [0u32; 24];
+    let mut now = r.used;
+    let mut i = 0;
+    while i < count {
+        let n = i as u32 + 2;
+        let p = value_after(
+            net,
+            letter,
+            low,
+            high,
+            index,
+            now,
+            time,
+            n,
+            values[i],
+            changes[i],
+        );
+        if p.full {
+            return Many {
+                full: true,
+                used: now,
+                entries: out,
+            };
+        }
+        out[i] = p.entry;
+        now = p.used;
+        i += 1;
+    }
+    Many {
+        full: false,
+        used: now,
+        entries: out,
+    }
+}

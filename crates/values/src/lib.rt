@@ -1,0 +1,12 @@
+// The values of a start and of a step over all patterns, stored in node order (document 01, step rule 1 and start).
+// Promise: what is stored is exactly `storeAll` of the values that the definitions of `rules` give at every pattern; full where it does not fit.
+// Internal to our crates: a call refuses first, and shows what is required here.
+pub mod arrive;
+pub mod source;
+
+// An entry for each node record, 0 past them, unless there was no room.
+pub struct Many {
+    pub full: bool,
+    pub used: u32,
+    pub entries: [u32; 24],
+}
