@@ -99,7 +99,7 @@ module _ (c : Circuit) (legal : AllLegal (length (c .nodes)) (c .transistors)) (
 
   module _ (inner : isInner c n ≡ true) (own : Numbered c n) (numbers : List ℕ) where
     -- by the right numbers: the next change by rules 5 to 7 where the group is touched, else the pending one
-    settled : (time : ℕ) (before after : State) (touched : Bool) → Shaped c after → changeAt after n ≡ pendingAfter time (changeAt before n) → Right c before after n touched numbers
+    pub settled : (time : ℕ) (before after : State) (touched : Bool) → Shaped c after → changeAt after n ≡ pendingAfter time (changeAt before n) → Right c before after n touched numbers
         → settledAt c time n numbers ≡ cond touched (nextChange c time after (kept c after) n) (changeAt after n)
     unfolding settledAt
     settled time before after touched shaped e r =

@@ -10,7 +10,7 @@ ghost use Rattle.descent.specs.Descend.{Settleable};
 const NEVER: u32 = 4294967295;
 
 // The pending change once T has happened.
-fn pending_after(time: u32, pending: u32) -> u32
+pub fn pending_after(time: u32, pending: u32) -> u32
     ensures { λ r. ⌜ r ≡ pendingAfter time pending ⌝ }
 {
     if pending == time {

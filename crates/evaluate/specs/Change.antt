@@ -1,0 +1,45 @@
+-- The next change of a node by the numbers of one pattern: values before and after T by node number, and the node's pending change.
+use mathlib.Core.List.{List}
+use mathlib.Core.Bool.{Bool, _||_, cond}
+use Prim.Native.Nat.{ℕ}
+use lib.ListN.{getD, drop}
+use Rattle.format.specs.Circuit.{Circuit}
+use Rattle.diagram.specs.Table.{Table}
+use Rattle.rules.specs.State.{State}
+use Rattle.rules.specs.Group.{reconsidered}
+use Rattle.rules.specs.Kept.{kept}
+use Rattle.rules.specs.Step.{nextChange}
+use Rattle.walk.specs.Leaf.{leafState}
+use Rattle.descent.specs.Settle.{rootsLength, leafAt, pendingAfter}
+
+-- the places: 26 values before T, 26 values after it, the pending change; as many as a descent has roots
+abbrev pub afterPlace : ℕ
+afterPlace = 26
+
+abbrev pub pendingPlace : ℕ
+pendingPlace = 52
+
+abbrev pub numbersLength : ℕ
+numbersLength = rootsLength
+
+-- the pending change once T has happened
+abbrev pub pendingIn : ℕ → List ℕ → ℕ
+pendingIn time numbers = pendingAfter time (getD numbers pendingPlace 0)
+
+-- the states before T and once all of T has happened
+abbrev pub beforeState : Circuit → List ℕ → State
+beforeState c numbers = leafState c 0 numbers
+
+abbrev pub afterState : Circuit → ℕ → List ℕ → State
+afterState c time numbers = leafState c (pendingIn time numbers) (drop afterPlace numbers)
+
+-- rules 2 to 7: reconsidered, everywhere where `all`, else the pending change
+unfoldable pub changeFrom : Circuit → ℕ → Bool → ℕ → List ℕ → ℕ
+changeFrom c time all n numbers =
+    cond (all || reconsidered c (beforeState c numbers) (afterState c time numbers) n)
+    (nextChange c time (afterState c time numbers) (kept c (afterState c time numbers)) n)
+    (pendingIn time numbers)
+
+-- the same over all patterns, by entries of a table
+abbrev pub changeBy : Circuit → ℕ → Bool → ℕ → ℕ → Table → List ℕ → ℕ → ℕ
+changeBy c time all n letters t entries p = changeFrom c time all n (leafAt letters t entries p)

@@ -1,0 +1,120 @@
+// By functions in the working table, where it has room.
+use crate::AFTER;
+use crate::PENDING;
+use descent::descend::descend;
+use prepare::prepare;
+use table::Put;
+ghost use mathlib.Core.Path.{_≡_};
+ghost use mathlib.Core.Bool.{true, false};
+ghost use Prim.Native.Nat.{_<_};
+ghost use lib.ListN.{length};
+ghost use Rattle.diagram.specs.Store.{store};
+ghost use Rattle.diagram.specs.Call.{tableOf};
+ghost use Rattle.net.specs.Net.{lettersPlace, at as atPlace, netCircuit};
+ghost use Rattle.table.specs.Holds.{columns, Sized, Outcome};
+ghost use Rattle.functions.specs.Open.{Open};
+ghost use Rattle.descent.specs.Descend.{Inner};
+ghost use Rattle.evaluate.specs.Change.{changeBy};
+ghost use Rattle.evaluate.specs.Entries.{Evaluable};
+
+// What was stored, unless working had no room.
+pub struct Tried {
+    pub done: bool,
+    pub put: Put,
+}
+
+// The roots of a descent for node n among the roots of a step.
+pub fn roots_for(roots: [u32; 142], n: usize) -> [u32; 92] {
+    let mut out = [0u32; 92];
+    let mut j = 0;
+    while j < 90 {
+        out[j] = roots[j];
+        j += 1;
+    }
+    out[90] = roots[90 + n];
+    out[91] = roots[116 + n];
+    out
+}
+
+// 26 entries from a place on.
+fn part(entries: &[u32; 92], from: usize) -> [u32; 26] {
+    let mut out = [0u32; 26];
+    let mut j = 0;
+    while j < 26 {
+        out[j] = entries[from + j];
+        j += 1;
+    }
+    out
+}
+
+// Node n by the functions of its group in the working table; where there is no room for them, nothing is stored.
+pub fn attempt(
+    net: &[u32],
+    letter: &mut [u32],
+    low: &mut [u32],
+    high: &mut [u32],
+    index: &mut [u32],
+    used: u32,
+    wletter: &mut [u32],
+    wlow: &mut [u32],
+    whigh: &mut [u32],
+    windex: &mut [u32],
+    time: u32,
+    all: bool,
+    n: u32,
+    entries: &[u32; 92],
+) -> Tried
+    requires { ⌜ Inner (now net) n × Open (atPlace (now net) lettersPlace) (now letter) (now low) (now high) (now index) used × Evaluable (atPlace (now net) lettersPlace) (tableOf (columns (now letter) (now low) (now high)) used) used (atPlace (now net) lettersPlace) (now entries) × Sized (now wletter) (now wlow) (now whigh) (now windex) ⌝ }
+    ensures { λ r. ⌜ (r .done ≡ true → Outcome (tableOf (columns (now (letter .entry)) (now (low .entry)) (now (high .entry))) used) (store (atPlace (now (net .entry)) lettersPlace) 0 (changeBy (netCircuit (now (net .entry))) time all n (atPlace (now (net .entry)) lettersPlace) (tableOf (columns (now (letter .entry)) (now (low .entry)) (now (high .entry))) used) (now (entries .entry))) (tableOf (columns (now (letter .entry)) (now (low .entry)) (now (high .entry))) used)) (now (letter .exit)) (now (low .exit)) (now (high .exit)) (now (index .exit)) (r .put)) × (r .done ≡ false → (now (letter .exit) ≡ now (letter .entry)) × (now (low .exit) ≡ now (low .entry)) × (now (high .exit) ≡ now (high .entry)) × (now (index .exit) ≡ now (index .entry))) ⌝ }
+{
+    let k = net[net::LETTERS];
+    let at = n as usize;
+    let group = net[net::GROUP + at] as usize;
+    let q = prepare(
+        net,
+        letter,
+        low,
+        high,
+        used,
+        wletter,
+        wlow,
+        whigh,
+        windex,
+        k,
+        part(entries, 0),
+        part(entries, AFTER),
+        [entries[PENDING]; 26],
+        all,
+        group,
+    );
+    if q.full {
+        return Tried {
+            done: false,
+            put: Put {
+                full: false,
+                entry: 0,
+                used,
+            },
+        };
+    }
+    let found = q.roots;
+    let roots = roots_for(found, at);
+    let put = descend(
+        net,
+        wletter,
+        wlow,
+        whigh,
+        q.used,
+        letter,
+        low,
+        high,
+        index,
+        used,
+        k,
+        time,
+        n,
+        &roots,
+        k,
+    );
+    Tried { done: true, put }
+}
