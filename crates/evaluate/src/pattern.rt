@@ -1,6 +1,6 @@
 // One pattern on plain numbers.
-use crate::AFTER;
-use crate::PENDING;
+use attempt::AFTER;
+use attempt::PENDING;
 use descent::letters::leaf_numbers;
 use descent::settle::pending_after;
 use functions::numbers::TERMINAL;
@@ -15,8 +15,8 @@ ghost use Rattle.net.specs.Net.{lettersPlace, at as atPlace, netCircuit};
 ghost use Rattle.table.specs.Holds.{columns, Outcome};
 ghost use Rattle.functions.specs.Open.{Open};
 ghost use Rattle.descent.specs.Descend.{Inner};
-ghost use Rattle.evaluate.specs.Change.{changeFrom, changeBy};
-ghost use Rattle.evaluate.specs.Entries.{Evaluable};
+ghost use Rattle.attempt.specs.Change.{changeFrom, changeBy};
+ghost use Rattle.attempt.specs.Entries.{Evaluable};
 
 // Whether node n is reconsidered.
 fn considered(net: &[u32], numbers: &[u32], all: bool, n: u32) -> bool {

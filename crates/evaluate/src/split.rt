@@ -1,6 +1,6 @@
 // A node letter by letter, as far as working is too small.
-use crate::attempt::attempt;
 use crate::pattern::leaf;
+use attempt::attempt;
 use descent::letters::halves;
 use functions::step::join;
 use table::Put;
@@ -12,8 +12,8 @@ ghost use Rattle.net.specs.Net.{lettersPlace, at as atPlace, netCircuit};
 ghost use Rattle.table.specs.Holds.{columns, Sized, Outcome};
 ghost use Rattle.functions.specs.Open.{Open};
 ghost use Rattle.descent.specs.Descend.{Inner};
-ghost use Rattle.evaluate.specs.Change.{changeBy};
-ghost use Rattle.evaluate.specs.Entries.{Evaluable};
+ghost use Rattle.attempt.specs.Change.{changeBy};
+ghost use Rattle.attempt.specs.Entries.{Evaluable};
 
 // The next change of node n at every pattern, by entries whose letters are among the last `left`.
 pub fn evaluate(

@@ -6,7 +6,7 @@ use lib.ListN.{length, getD}
 use Rattle.diagram.specs.Pattern.{patterns}
 use Rattle.diagram.specs.Table.{Table, numberAt}
 use Rattle.functions.specs.Open.{Operand}
-use Rattle.evaluate.specs.Change.{afterPlace, pendingPlace, numbersLength}
+use Rattle.attempt.specs.Change.{afterPlace, pendingPlace, numbersLength}
 
 -- the rails' values are their terminals, the others' are bits, and all letters are among the last `left` of the k
 pub record Evaluable (k : ℕ) (t : Table) (used left : ℕ) (entries : List ℕ) : Type 0 where

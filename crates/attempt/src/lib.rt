@@ -1,6 +1,6 @@
-// By functions in the working table, where it has room.
-use crate::AFTER;
-use crate::PENDING;
+// The next change of one node over all patterns, by functions in the working table, where it has room for them.
+// Promise: an attempt that was done has stored `changeBy` at every pattern, with exactly its missing entries; any other has stored nothing.
+// Internal to our crates: the length of working decides only which way is gone (crate evaluate has the other).
 use descent::descend::descend;
 use prepare::prepare;
 use table::Put;
@@ -14,8 +14,14 @@ ghost use Rattle.net.specs.Net.{lettersPlace, at as atPlace, netCircuit};
 ghost use Rattle.table.specs.Holds.{columns, Sized, Outcome};
 ghost use Rattle.functions.specs.Open.{Open};
 ghost use Rattle.descent.specs.Descend.{Inner};
-ghost use Rattle.evaluate.specs.Change.{changeBy};
-ghost use Rattle.evaluate.specs.Entries.{Evaluable};
+ghost use Rattle.attempt.specs.Change.{changeBy};
+ghost use Rattle.attempt.specs.Entries.{Evaluable};
+
+// The places of the entries: values before T by node number, values after it, the pending change; 0 past them, up to the width of a
+// descent's roots, so that the same functions take their parts.
+pub const AFTER: usize = 26;
+
+pub const PENDING: usize = 52;
 
 // What was stored, unless working had no room.
 pub struct Tried {
