@@ -1,0 +1,155 @@
+// A start and a step over all patterns, in lent columns beside their index.
+// Promise: the run and the table afterwards are `startMoment` and `stepMoment` of the definitions; full where they do not fit.
+// Internal to our crates: a call refuses first, and shows what is required here.
+use changes::changes;
+use record::Run;
+use values::Many;
+use values::arrive::arrive;
+use values::source::sources;
+ghost use mathlib.Core.Path.{_≡_};
+ghost use mathlib.Core.Bool.{true};
+ghost use Rattle.diagram.specs.Call.{tableOf};
+ghost use Rattle.table.specs.Holds.{columns, Sized};
+ghost use Rattle.functions.specs.Open.{Open};
+ghost use Rattle.rules.specs.Run.{startMoment, timeAfter, stepMoment, runSound};
+ghost use Rattle.rules.specs.Call.{momentGiven};
+ghost use Rattle.record.specs.Record.{runOf};
+ghost use Rattle.net.specs.Net.{lettersPlace, at as atPlace, netCircuit};
+ghost use Rattle.net.specs.Laid.{Laid};
+ghost use Rattle.step.specs.Next.{NextAs};
+
+// The run after a start or a step, unless there was no room.
+pub struct Next {
+    pub full: bool,
+    pub run: Run,
+}
+
+// The first entries by node number behind those of the rails, 0 past them.
+fn by_number(ground: u32, supply: u32, entries: [u32; 24], count: usize) -> [u32; 26] {
+    let mut out = [0u32; 26];
+    out[0] = ground;
+    out[1] = supply;
+    let mut i = 0;
+    while i < count {
+        out[i + 2] = entries[i];
+        i += 1;
+    }
+    out
+}
+
+fn no_room() -> Next {
+    Next {
+        full: true,
+        run: Run {
+            time: 0,
+            used: 0,
+            values: [0u32; 24],
+            changes: [0u32; 24],
+        },
+    }
+}
+
+// The run of values and next changes that were stored.
+fn next(time: u32, values: [u32; 24], c: Many) -> Next {
+    if c.full {
+        return no_room();
+    }
+    Next {
+        full: false,
+        run: Run {
+            time,
+            used: c.used,
+            values,
+            changes: c.entries,
+        },
+    }
+}
+
+// A start: the sources, and every group touched at time 0.
+pub fn start(
+    net: &[u32],
+    letter: &mut [u32],
+    low: &mut [u32],
+    high: &mut [u32],
+    index: &mut [u32],
+    used: u32,
+    wletter: &mut [u32],
+    wlow: &mut [u32],
+    whigh: &mut [u32],
+    windex: &mut [u32],
+) -> Next
+    requires { ⌜ Laid (netCircuit (now net)) (now net) × Open (atPlace (now net) lettersPlace) (now letter) (now low) (now high) (now index) used × Sized (now wletter) (now wlow) (now whigh) (now windex) ⌝ }
+    ensures { λ x. ⌜ NextAs (tableOf (columns (now (letter .entry)) (now (low .entry)) (now (high .entry))) used) (startMoment (netCircuit (now (net .entry))) (tableOf (columns (now (letter .entry)) (now (low .entry)) (now (high .entry))) used)) (now (letter .exit)) (now (low .exit)) (now (high .exit)) (now (index .exit)) (x .full) (x .run) ⌝ }
+{
+    let v = sources(net, letter, low, high, index, used);
+    if v.full {
+        return no_room();
+    }
+    let count = net[net::NODES] as usize;
+    let values = v.entries;
+    let now = by_number(0, 1, values, count);
+    let c = changes(
+        net,
+        letter,
+        low,
+        high,
+        index,
+        v.used,
+        wletter,
+        wlow,
+        whigh,
+        windex,
+        0,
+        true,
+        now,
+        now,
+        [2u32; 26],
+    );
+    next(0, values, c)
+}
+
+// A step to T: all of T happens, then the next changes.
+pub fn step(
+    net: &[u32],
+    letter: &mut [u32],
+    low: &mut [u32],
+    high: &mut [u32],
+    index: &mut [u32],
+    r: Run,
+    wletter: &mut [u32],
+    wlow: &mut [u32],
+    whigh: &mut [u32],
+    windex: &mut [u32],
+    time: u32,
+) -> Next
+    requires { ⌜ Laid (netCircuit (now net)) (now net) × Open (atPlace (now net) lettersPlace) (now letter) (now low) (now high) (now index) (r .used) × Sized (now wletter) (now wlow) (now whigh) (now windex) ⌝ }
+    requires { ⌜ (runSound (netCircuit (now net)) (tableOf (columns (now letter) (now low) (now high)) (r .used)) (runOf (netCircuit (now net)) r) ≡ true) × (time ≡ timeAfter (netCircuit (now net)) (momentGiven (columns (now letter) (now low) (now high)) (runOf (netCircuit (now net)) r))) ⌝ }
+    ensures { λ x. ⌜ NextAs (tableOf (columns (now (letter .entry)) (now (low .entry)) (now (high .entry))) (r .used)) (stepMoment (netCircuit (now (net .entry))) (momentGiven (columns (now (letter .entry)) (now (low .entry)) (now (high .entry))) (runOf (netCircuit (now (net .entry))) r))) (now (letter .exit)) (now (low .exit)) (now (high .exit)) (now (index .exit)) (x .full) (x .run) ⌝ }
+{
+    let v = arrive(net, letter, low, high, index, r, time);
+    if v.full {
+        return no_room();
+    }
+    let count = net[net::NODES] as usize;
+    let old = r.values;
+    let waiting = r.changes;
+    let new = v.entries;
+    let c = changes(
+        net,
+        letter,
+        low,
+        high,
+        index,
+        v.used,
+        wletter,
+        wlow,
+        whigh,
+        windex,
+        time,
+        false,
+        by_number(0, 1, old, count),
+        by_number(0, 1, new, count),
+        by_number(2, 2, waiting, count),
+    );
+    next(time, new, c)
+}
