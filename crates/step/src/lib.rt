@@ -50,7 +50,7 @@ fn no_room() -> Next {
 }
 
 // The run of values and next changes that were stored.
-fn next(time: u32, values: [u32; 24], c: Many) -> Next {
+fn gathered(time: u32, values: [u32; 24], c: Many) -> Next {
     if c.full {
         return no_room();
     }
@@ -105,7 +105,7 @@ pub fn start(
         now,
         [2u32; 26],
     );
-    next(0, values, c)
+    gathered(0, values, c)
 }
 
 // A step to T: all of T happens, then the next changes.
@@ -151,5 +151,5 @@ pub fn step(
         by_number(0, 1, new, count),
         by_number(2, 2, waiting, count),
     );
-    next(time, new, c)
+    gathered(time, new, c)
 }
