@@ -54,13 +54,14 @@ fn gathered(time: u32, values: [u32; 24], c: Many) -> Next {
     if c.full {
         return no_room();
     }
+    let changes = c.entries;
     Next {
         full: false,
         run: Run {
             time,
             used: c.used,
             values,
-            changes: c.entries,
+            changes,
         },
     }
 }
