@@ -1,0 +1,3 @@
+pub mod Series
+pub mod Single
+pub mod Arriving

@@ -11,24 +11,26 @@ ghost use mathlib.Core.Bool.{true};
 ghost use mathlib.Core.List.{map};
 ghost use Prim.Native.Nat.{ℕ, _+_, _<_};
 ghost use Rattle.diagram.specs.Store.{store};
-ghost use Rattle.diagram.specs.Table.{numberAt};
 ghost use Rattle.diagram.specs.Call.{tableOf};
 ghost use Rattle.table.specs.Holds.{columns, Outcome};
 ghost use Rattle.functions.specs.Open.{Open};
 ghost use Rattle.rules.specs.State.{valueAt, nodeNumbers};
-ghost use Rattle.rules.specs.Arrive.{scheduled};
 ghost use Rattle.rules.specs.Step.{stepped};
 ghost use Rattle.rules.specs.Run.{storeAll, stateOf, runSound};
 ghost use Rattle.record.specs.Record.{runOf};
-ghost use Rattle.net.specs.Net.{lettersPlace, at as atPlace, netCircuit};
+ghost use Rattle.net.specs.Net.{nodesPlace, lettersPlace, at as atPlace, netCircuit};
 ghost use Rattle.net.specs.Laid.{Laid};
 ghost use Rattle.values.specs.All.{OutcomeAll};
+ghost use Rattle.values.specs.Arriving.{Due, inputAfter, valueAfter};
 
 // No source byte is as large.
 const NONE: u32 = 256;
 
 // The source that input n takes at `time`, or none.
-fn source_at(net: &[u32], time: u32, n: u32) -> u32 {
+fn source_at(net: &[u32], time: u32, n: u32) -> u32
+    requires { ⌜ Laid (netCircuit (now net)) (now net) ⌝ }
+    ensures { λ r. ⌜ Due (atPlace (now (net .entry)) lettersPlace) (netCircuit (now (net .entry)) .schedule) time n r ⌝ }
+{
     let count = net[net::ENTRIES] as usize;
     let mut i = 0;
     while i < count {
@@ -51,7 +53,10 @@ fn input_value(
     time: u32,
     n: u32,
     value: u32,
-) -> Put {
+) -> Put
+    requires { ⌜ Laid (netCircuit (now net)) (now net) × Open (atPlace (now net) lettersPlace) (now letter) (now low) (now high) (now index) used × (value < used) ⌝ }
+    ensures { λ r. ⌜ Outcome (tableOf (columns (now (letter .entry)) (now (low .entry)) (now (high .entry))) used) (store (atPlace (now (net .entry)) lettersPlace) 0 (inputAfter (atPlace (now (net .entry)) lettersPlace) (netCircuit (now (net .entry))) (tableOf (columns (now (letter .entry)) (now (low .entry)) (now (high .entry))) used) time n value) (tableOf (columns (now (letter .entry)) (now (low .entry)) (now (high .entry))) used)) (now (letter .exit)) (now (low .exit)) (now (high .exit)) (now (index .exit)) r ⌝ }
+{
     let byte = source_at(net, time, n);
     if byte == NONE {
         return Put {
@@ -75,7 +80,11 @@ fn value_after(
     n: u32,
     value: u32,
     change: u32,
-) -> Put {
+) -> Put
+    requires { ⌜ Laid (netCircuit (now net)) (now net) × Open (atPlace (now net) lettersPlace) (now letter) (now low) (now high) (now index) used ⌝ }
+    requires { ⌜ (n < 2 + atPlace (now net) nodesPlace) × (value < used) × (change < used) ⌝ }
+    ensures { λ r. ⌜ Outcome (tableOf (columns (now (letter .entry)) (now (low .entry)) (now (high .entry))) used) (store (atPlace (now (net .entry)) lettersPlace) 0 (valueAfter (atPlace (now (net .entry)) lettersPlace) (netCircuit (now (net .entry))) (tableOf (columns (now (letter .entry)) (now (low .entry)) (now (high .entry))) used) time n value change) (tableOf (columns (now (letter .entry)) (now (low .entry)) (now (high .entry))) used)) (now (letter .exit)) (now (low .exit)) (now (high .exit)) (now (index .exit)) r ⌝ }
+{
     if is_input(net, n) {
         return input_value(net, letter, low, high, index, used, time, n, value);
     }
@@ -115,7 +124,7 @@ pub fn arrive(
     let mut now = r.used;
     let mut i = 0;
     while i < count {
-        let n = i as u32 + 2;
+        let n = 2 + i as u32;
         let p = value_after(
             net,
             letter,

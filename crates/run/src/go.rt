@@ -1,0 +1,143 @@
+// Start, step and run up to a picosecond.
+use advance::Task;
+use advance::Went;
+use advance::advance;
+use cell::Cell;
+use record::Run;
+use refusal::Refusal;
+use refusal::Reply;
+use table::clear;
+use table::index_len;
+use table::lengths_legal;
+ghost use mathlib.Core.Path.{_≡_};
+ghost use mathlib.Core.Bool.{true};
+ghost use Rattle.refusal.specs.Answer.{answered};
+ghost use Rattle.format.specs.Legal.{checkCircuit};
+ghost use Rattle.format.specs.File.{readCell};
+ghost use Rattle.cell.specs.Value.{circuitOf};
+ghost use Rattle.diagram.specs.Call.{lengthsLegal};
+ghost use Rattle.rules.specs.Call.{workingLegal};
+ghost use Rattle.table.specs.Holds.{columns};
+ghost use Rattle.advance.specs.Task.{taskCall};
+ghost use Rattle.run.specs.Done.{DoneAs};
+
+const LEAST_WORKING: usize = 4096;
+
+// Whether the lengths of the table and of working are legal.
+fn lengths(
+    letter: &[u32],
+    low: &[u32],
+    high: &[u32],
+    wletter: &[u32],
+    wlow: &[u32],
+    whigh: &[u32],
+) -> bool {
+    if !lengths_legal(letter, low, high) {
+        return false;
+    }
+    if !lengths_legal(wletter, wlow, whigh) {
+        return false;
+    }
+    LEAST_WORKING <= wletter.len()
+}
+
+fn refused(why: Refusal, r: Run) -> Went {
+    Went {
+        reply: Reply::Refused(why),
+        run: r,
+    }
+}
+
+// On a legal cell, with columns of legal lengths.
+fn on_legal(
+    cell: Cell,
+    task: Task,
+    letter: &mut [u32],
+    low: &mut [u32],
+    high: &mut [u32],
+    r: Run,
+    wletter: &mut [u32],
+    wlow: &mut [u32],
+    whigh: &mut [u32],
+) -> Went
+    requires { ⌜ (checkCircuit (circuitOf cell) ≡ answered (circuitOf cell)) × (lengthsLegal (columns (now letter) (now low) (now high)) ≡ true) × (workingLegal (columns (now wletter) (now wlow) (now whigh)) ≡ true) ⌝ }
+    ensures { λ x. ⌜ DoneAs (columns (now (letter .entry)) (now (low .entry)) (now (high .entry))) (columns (now (letter .exit)) (now (low .exit)) (now (high .exit))) (columns (now (wletter .entry)) (now (wlow .entry)) (now (whigh .entry))) (columns (now (wletter .exit)) (now (wlow .exit)) (now (whigh .exit))) r (taskCall (answered (circuitOf cell)) task (columns (now (letter .entry)) (now (low .entry)) (now (high .entry))) r (columns (now (wletter .entry)) (now (wlow .entry)) (now (whigh .entry)))) (x .reply) (x .run) ⌝ }
+{
+    let net = net::lay(cell);
+    let n = index_len(letter.len());
+    let m = index_len(wletter.len());
+    let mut index = [0u32; 131072];
+    let mut windex = [0u32; 131072];
+    let went = advance(
+        &net,
+        task,
+        letter,
+        low,
+        high,
+        &mut index[..n],
+        r,
+        wletter,
+        wlow,
+        whigh,
+        &mut windex[..m],
+    );
+    clear(wletter, wlow, whigh, 0);
+    went
+}
+
+// On a cell file.
+pub fn on_file(
+    file: &[u8],
+    task: Task,
+    letter: &mut [u32],
+    low: &mut [u32],
+    high: &mut [u32],
+    r: Run,
+    wletter: &mut [u32],
+    wlow: &mut [u32],
+    whigh: &mut [u32],
+) -> Went
+    ensures { λ x. ⌜ DoneAs (columns (now (letter .entry)) (now (low .entry)) (now (high .entry))) (columns (now (letter .exit)) (now (low .exit)) (now (high .exit))) (columns (now (wletter .entry)) (now (wlow .entry)) (now (whigh .entry))) (columns (now (wletter .exit)) (now (wlow .exit)) (now (whigh .exit))) r (taskCall (readCell (now (file .entry))) task (columns (now (letter .entry)) (now (low .entry)) (now (high .entry))) r (columns (now (wletter .entry)) (now (wlow .entry)) (now (whigh .entry)))) (x .reply) (x .run) ⌝ }
+{
+    if !lengths(letter, low, high, wletter, wlow, whigh) {
+        return refused(Refusal::Buffer, r);
+    }
+    let reading = Cell::read(file);
+    let reply = reading.reply;
+    match reply {
+        Reply::Done => {
+            let cell = reading.cell;
+            on_legal(cell, task, letter, low, high, r, wletter, wlow, whigh)
+        }
+        Reply::Refused(why) => {
+            clear(wletter, wlow, whigh, 0);
+            refused(why, r)
+        }
+    }
+}
+
+// On a cell by value.
+pub fn on_cell(
+    cell: Cell,
+    task: Task,
+    letter: &mut [u32],
+    low: &mut [u32],
+    high: &mut [u32],
+    r: Run,
+    wletter: &mut [u32],
+    wlow: &mut [u32],
+    whigh: &mut [u32],
+) -> Went
+    ensures { λ x. ⌜ DoneAs (columns (now (letter .entry)) (now (low .entry)) (now (high .entry))) (columns (now (letter .exit)) (now (low .exit)) (now (high .exit))) (columns (now (wletter .entry)) (now (wlow .entry)) (now (whigh .entry))) (columns (now (wletter .exit)) (now (wlow .exit)) (now (whigh .exit))) r (taskCall (checkCircuit (circuitOf cell)) task (columns (now (letter .entry)) (now (low .entry)) (now (high .entry))) r (columns (now (wletter .entry)) (now (wlow .entry)) (now (whigh .entry)))) (x .reply) (x .run) ⌝ }
+{
+    if !lengths(letter, low, high, wletter, wlow, whigh) {
+        return refused(Refusal::Buffer, r);
+    }
+    match cell.check() {
+        Reply::Done => on_legal(cell, task, letter, low, high, r, wletter, wlow, whigh),
+        Reply::Refused(why) => {
+            clear(wletter, wlow, whigh, 0);
+            refused(why, r)
+        }
+    }
+}
