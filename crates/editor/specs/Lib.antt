@@ -1,2 +1,3 @@
 pub mod Read
 pub mod Functions
+pub mod Runs
