@@ -1,0 +1,3 @@
+pub mod Prepared
+pub mod Later
+pub mod Trying

@@ -1,2 +1,3 @@
 pub mod Change
 pub mod Entries
+pub mod Places

@@ -6,8 +6,7 @@ use prepare::prepare;
 use table::Put;
 ghost use mathlib.Core.Path.{_≡_};
 ghost use mathlib.Core.Bool.{true, false};
-ghost use Prim.Native.Nat.{_<_};
-ghost use lib.ListN.{length};
+ghost use Prim.Native.Nat.{_<_, _≤_};
 ghost use Rattle.diagram.specs.Store.{store};
 ghost use Rattle.diagram.specs.Call.{tableOf};
 ghost use Rattle.net.specs.Net.{lettersPlace, at as atPlace, netCircuit};
@@ -16,6 +15,7 @@ ghost use Rattle.functions.specs.Open.{Open};
 ghost use Rattle.descent.specs.Descend.{Inner};
 ghost use Rattle.attempt.specs.Change.{changeBy};
 ghost use Rattle.attempt.specs.Entries.{Evaluable};
+ghost use Rattle.attempt.specs.Places.{RootsFor, PartOf};
 
 // The places of the entries: values before T by node number, values after it, the pending change; 0 past them, up to the width of a
 // descent's roots, so that the same functions take their parts.
@@ -30,7 +30,10 @@ pub struct Tried {
 }
 
 // The roots of a descent for node n among the roots of a step.
-pub fn roots_for(roots: [u32; 142], n: usize) -> [u32; 92] {
+pub fn roots_for(roots: [u32; 142], n: usize) -> [u32; 92]
+    requires { ⌜ n < 26 ⌝ }
+    ensures { λ r. ⌜ RootsFor roots n r ⌝ }
+{
     let mut out = [0u32; 92];
     let mut j = 0;
     while j < 90 {
@@ -43,7 +46,10 @@ pub fn roots_for(roots: [u32; 142], n: usize) -> [u32; 92] {
 }
 
 // 26 entries from a place on.
-fn part(entries: &[u32; 92], from: usize) -> [u32; 26] {
+fn part(entries: &[u32; 92], from: usize) -> [u32; 26]
+    requires { ⌜ from ≤ 66 ⌝ }
+    ensures { λ r. ⌜ PartOf (now (entries .entry)) from r ⌝ }
+{
     let mut out = [0u32; 26];
     let mut j = 0;
     while j < 26 {

@@ -5,10 +5,11 @@ use mathlib.Core.List.{List}
 use mathlib.Core.Bool.{Bool, true, false, not, _&&_, _||_, cond}
 use Prim.Native.Nat.{ℕ, _+_, _-_, _≤_, _<_}
 use native.Mathlib.Omega.{arith}
-use lib.ListN.{getD}
+use lib.ListN.{length, getD}
 use lib.Dec.{ltb, eqb}
-use borrow.Author.Tests.{lt-ltb, eq-eqb, ne-eqb}
-use Rattle.lists.proofs.Cases.{bool-cases, eq-or-ne, lt-or-ge, true-false}
+use borrow.Author.Tests.{lt-ltb, eqb-true, eq-eqb, ne-eqb}
+use Rattle.lists.proofs.Cases.{bool-cases, eq-or-ne, lt-or-ge, true-false, and-left, and-right, and-both}
+use Rattle.format.specs.declared.Transistor.{Transistor}
 use Rattle.format.specs.Circuit.{Circuit}
 use Rattle.format.proofs.Legal.{LegalCell}
 use Rattle.diagram.specs.Pattern.{patterns}
@@ -22,15 +23,17 @@ use Rattle.working.proofs.Grow.{open-three}
 use Rattle.working.proofs.Fill.{number-kept, used-kept, filled-used}
 use Rattle.rules.specs.State.{State, isInner}
 use Rattle.rules.specs.Arrive.{changed}
-use Rattle.rules.specs.Group.{labelAt, groups, ofGroup, disturbed, touched, reconsidered}
-use Rattle.rules.proofs.Matrix.{isKept, transistorAt, LookedAt, group-kept}
+use Rattle.rules.specs.Group.{labelAt, joined, betweenInner, groups, inGroup, ofGroup, disturbed, touched, reconsidered}
+use Rattle.rules.specs.Kept.{conducts}
+use Rattle.rules.proofs.Label.{joined-refl}
+use Rattle.rules.proofs.Matrix.{isKept, isHeld, transistorAt, or-first, kept-by-labels, LookedAt, group-kept}
 use Rattle.net.specs.Net.{at, netCircuit, netGroup}
 use Rattle.net.specs.Laid.{Laid}
 use Rattle.net.proofs.Laying.{nodes-length, transistors-length}
 use Rattle.prepare.specs.Steps.{Shows, Bits, groupOf, considered, touchedBy, differs, touchedLabel, lookedAt, KeptAll}
 use Rattle.prepare.specs.Roots.{NodeRoots, KeptRoots, Roots}
 use Rattle.prepare.proofs.Reading.{laid-legal, laid-label, laid-least, group-other}
-use Rattle.prepare.proofs.Touching.{some-same, touched-same}
+use Rattle.prepare.proofs.Touching.{some-same, touched-same, bit-some}
 
 -- a considered group by its label is touched as rule 2 says
 module _ (c : Circuit) (l : LegalCell c) (only n : ℕ) (so : considered only (labelAt (groups c) n) ≡ true) where
@@ -156,6 +159,46 @@ module _ (net : List ℕ) (k : Laid (netCircuit net) net) {letters : ℕ} (t : T
         ∙ q .kept-is i p sa hi hp (λ j hj. ha j hj ∙ sym (value-third j p hj hp))
         ∙ ap bit (group-kept c (laid-legal net k) n sa (lookedAt c letters third marks p) (looked p e) i (omega (arith, transistors-length net)) of)
 
+  -- a transistor that is kept is looked at, and so is its whole group: the rule keeps it
+  module _ (i p : ℕ) (sa : State) (hp : p < patterns letters) (ha : Shows letters t after (at net 0) p sa) (hi : i < at net 1) where
+    abbrev u : Transistor
+    u = transistorAt c i
+
+    abbrev seen : ℕ → Bool
+    seen = lookedAt c letters third marks p
+
+    here : i < length (c .transistors)
+    here = omega (arith, transistors-length net)
+
+    kept-held : numberAt letters last (getD roots (26 + i) 0) p ≡ bit (isHeld c sa seen i)
+    kept-held = ap (λ (z : ℕ). numberAt letters last z p) (b .kept-at i (omega (arith, k .within .transistors))) ∙ q .kept-is i p sa hi hp (λ j hj. ha j hj ∙ sym (value-third j p hj hp))
+
+    module _ (e : numberAt letters last (getD roots (26 + i) 0) p ≡ 1) where
+      is-held : isHeld c sa seen i ≡ true
+      is-held = bit-some (isHeld c sa seen i) (λ z. omega (arith, sym e ∙ kept-held ∙ z))
+
+      is-on : conducts sa u && seen i ≡ true
+      is-on = and-left (conducts sa u && seen i) _ is-held
+
+      kept-driven : betweenInner c u ≡ false → isKept c sa i ≡ true
+      kept-driven d = kept-by-labels c sa i here ∙ rw d (rw (and-left (conducts sa u) (seen i) is-on))
+
+      kept-between : betweenInner c u ≡ true → isKept c sa i ≡ true
+      kept-between d =
+          let inner : isInner c (u .first) ≡ true = and-left (isInner c (u .first)) (isInner c (u .second)) d in
+          let lt : u .first < 2 + at net 0 = omega (arith, laid-legal net k .transistor i here .first-is, nodes-length net) in
+          let of : ofGroup c (u .first) u ≡ true = or-first (inGroup c (u .first) (u .first)) _ (and-both (isInner c (u .first)) (joined (groups c) (u .first) (u .first)) inner (joined-refl (groups c) (u .first))) in
+          let same : groupOf c u ≡ labelAt (groups c) (u .first) = rw inner in
+          let mark : numberAt letters last (getD roots (90 + u .first) 0) p ≡ 1 =
+          ap (λ (z : ℕ). numberAt letters last z p) (touched-root (u .first) lt inner)
+          ∙ mark-last (g (u .first) lt inner) p (small (u .first) lt inner)
+          ∙ sym (ap (λ (z : ℕ). numberAt letters third (getD marks z 0) p) same)
+          ∙ eqb-true _ 1 (and-right (conducts sa u) (seen i) is-on) in
+          bit-some (isKept c sa i) (λ z. omega (arith, sym e ∙ kept-rule (u .first) lt inner i p sa hp ha mark hi of ∙ z))
+
+      kept-only : isKept c sa i ≡ true
+      kept-only = ⊎-elim kept-between kept-driven (bool-cases (betweenInner c u))
+
   -- every root is a used entry
   within : (j : ℕ) → j < 142 → getD roots j 0 < used4
   within j hj = parts (lt-or-ge j 26) (lt-or-ge j 90) (lt-or-ge j 116)
@@ -227,4 +270,5 @@ module _ (net : List ℕ) (k : Laid (netCircuit net) net) {letters : ℕ} (t : T
     pending-is = λ n p lt hp. ap (λ (z : ℕ). numberAt letters last z p) (b .above-at (116 + n) (omega arith) ∙ a .pending-at n lt) ∙ pending-last n p lt hp;
     touched-is = λ n p sb sa lt inner so hp hb ha. touched-is n lt inner so p sb sa hp hb ha;
     kept-is = λ n i p sa lt inner so hp ha e hi of. kept-rule n lt inner i p sa hp ha e hi of;
+    kept-only = λ i p sa hp ha hi e. kept-only i p sa hp ha hi e;
   }

@@ -58,3 +58,6 @@ pub record Roots (net : List ℕ) (letters : ℕ) (t : Table) (before after pend
       → Shows letters t after (at net nodesPlace) p sa → numberAt letters (held l w h used) (getD roots (touchedPlace + n) 0) p ≡ 1
       → i < at net transistorsPlace → ofGroup (netCircuit net) n (transistorAt (netCircuit net) i) ≡ true
       → numberAt letters (held l w h used) (getD roots (keptPlace + i) 0) p ≡ bit (isKept (netCircuit net) sa i)
+  -- and where it is not touched, or not considered, no transistor is kept that the rule does not keep
+  pub kept-only : (i p : ℕ) (sa : State) → p < patterns letters → Shows letters t after (at net nodesPlace) p sa → i < at net transistorsPlace
+      → numberAt letters (held l w h used) (getD roots (keptPlace + i) 0) p ≡ 1 → isKept (netCircuit net) sa i ≡ true

@@ -1,0 +1,104 @@
+-- `roots_for`: the places before j hold the roots; then those of the node.
+use mathlib.Core.Path.{_≡_, refl, _∙_}
+use mathlib.Core.List.{List}
+use Prim.Native.Nat.{ℕ, _+_, _-_, _≤_}
+use native.Mathlib.Omega.{arith}
+use lib.ListN.{getD, set, length-set}
+use lib.Seq.{getD-set-same, getD-set-other}
+use borrow.Author.Needs.{needs}
+use Rattle.descent.proofs.Fill.{FilledTo, filled-none, filled-next}
+use Rattle.attempt.specs.Places.{RootsFor}
+use Rattle.attempt.proofs.roots_for.Statement.{statement}
+use Rattle.attempt.proofs.roots_for.Tie as tie
+
+-- the last two places written
+placed : (roots out : List ℕ) (n : ℕ) → FilledTo (λ (i : ℕ). getD roots i 0) 92 90 out → RootsFor roots n (set (set out 90 (getD roots (90 + n) 0)) 91 (getD roots (116 + n) 0))
+placed roots out n h = record {
+  long = simp length-set (h .long);
+  leaf = λ j l. getD-set-other (set out 90 (getD roots (90 + n) 0)) 91 j (getD roots (116 + n) 0) 0 (λ e. omega arith) ∙ getD-set-other out 90 j (getD roots (90 + n) 0) 0 (λ e. omega arith) ∙ h .is j l;
+  touched = getD-set-other (set out 90 (getD roots (90 + n) 0)) 91 90 (getD roots (116 + n) 0) 0 (λ e. omega arith) ∙ getD-set-same out 90 (getD roots (90 + n) 0) 0 (omega (arith, h .long));
+  pending = getD-set-same (set out 90 (getD roots (90 + n) 0)) 91 (getD roots (116 + n) 0) 0 (simp length-set (omega (arith, h .long)));
+}
+
+abbrev Inv-loop : tie.InvT-loop
+Inv-loop n roots out₀ j₀ out j = (j ≤ 90) × FilledTo (λ (i : ℕ). getD roots i 0) 92 j out
+
+abbrev μ-loop : tie.MeasureT-loop
+μ-loop n roots out₀ j₀ out j = 90 - j
+
+loop-holds : tie.Need-loop-holds Inv-loop μ-loop
+loop-holds c = (omega arith, filled-none _ 92 _ refl)
+
+mul-out : tie.Need-mul-out Inv-loop μ-loop
+mul-out c = search needs
+
+array-read-out : tie.Need-array-read-out Inv-loop μ-loop
+array-read-out c = search needs
+
+mul-out-2 : tie.Need-mul-out-2 Inv-loop μ-loop
+mul-out-2 c = search needs
+
+array-write-out : tie.Need-array-write-out Inv-loop μ-loop
+array-write-out c = search needs
+
+add-j : tie.Need-add-j Inv-loop μ-loop
+add-j c = search needs
+
+loop-less : tie.Need-loop-less Inv-loop μ-loop
+loop-less c = search needs
+
+loop-again : tie.Need-loop-again Inv-loop μ-loop
+loop-again c = (omega arith, filled-next _ 92 _ _ _ (c .before .loop .inv .1) (omega (arith, c .loop-test .taken)) refl)
+
+add-out : tie.Need-add-out Inv-loop μ-loop
+add-out c = search needs
+
+mul-out-3 : tie.Need-mul-out-3 Inv-loop μ-loop
+mul-out-3 c = search needs
+
+array-read-out-2 : tie.Need-array-read-out-2 Inv-loop μ-loop
+array-read-out-2 c = search needs
+
+array-write-out-2 : tie.Need-array-write-out-2 Inv-loop μ-loop
+array-write-out-2 c = search needs
+
+add-out-2 : tie.Need-add-out-2 Inv-loop μ-loop
+add-out-2 c = search needs
+
+mul-out-4 : tie.Need-mul-out-4 Inv-loop μ-loop
+mul-out-4 c = search needs
+
+array-read-out-3 : tie.Need-array-read-out-3 Inv-loop μ-loop
+array-read-out-3 c = search needs
+
+array-write-out-3 : tie.Need-array-write-out-3 Inv-loop μ-loop
+array-write-out-3 c = search needs
+
+returns : tie.Need-returns Inv-loop μ-loop
+returns c =
+    let z : c .before .loop .j ≡ 90 = omega (arith, c .before .loop .inv .0, c .loop-test .left) in
+    placed (c .before .before .args .t1) (c .before .loop .out) (c .before .before .args .n) (rw z at (c .before .loop .inv .1))
+
+pub roots-for-spec : {M : Type 1} → statement M
+roots-for-spec =
+    tie.close
+    (tie.spec
+    Inv-loop
+    μ-loop
+    loop-holds
+    mul-out
+    array-read-out
+    mul-out-2
+    array-write-out
+    add-j
+    loop-less
+    loop-again
+    add-out
+    mul-out-3
+    array-read-out-2
+    array-write-out-2
+    add-out-2
+    mul-out-4
+    array-read-out-3
+    array-write-out-3
+    returns)
