@@ -52,6 +52,26 @@ impl Source {
         }
     }
 
+    /// Its value at a pattern, whose bit k is letter k.
+    pub fn at(self, pattern: usize) -> bool {
+        match self {
+            Source::Low => false,
+            Source::High => true,
+            Source::Letter(k) => pattern >> k & 1 == 1,
+            Source::NotLetter(k) => pattern >> k & 1 == 0,
+        }
+    }
+
+    /// What is left of it where a letter is fixed.
+    fn fixed(self, letter: u8, bit: bool) -> Source {
+        let constant = |value| if value { Source::High } else { Source::Low };
+        match self {
+            Source::Letter(k) if k == letter => constant(bit),
+            Source::NotLetter(k) if k == letter => constant(!bit),
+            other => other,
+        }
+    }
+
     /// The byte that stands for this source.
     pub fn to_byte(self) -> u8 {
         match self {
@@ -138,6 +158,16 @@ impl Cell {
             self.letters,
             self.horizon,
         ]
+    }
+
+    /// The cell with a letter fixed; the number of letters stays.
+    pub fn fixed(mut self, letter: u8, bit: bool) -> Cell {
+        let starts = self.nodes.iter_mut().map(|node| &mut node.start);
+        let entries = self.schedule.iter_mut().map(|entry| &mut entry.source);
+        for source in starts.chain(entries) {
+            *source = source.fixed(letter, bit);
+        }
+        self
     }
 
     /// How many records its file has.

@@ -5,6 +5,8 @@
 //! into the tool; the comparisons themselves are the files of `tests/`.
 
 pub mod cell_file;
+pub mod designs;
+pub mod draft;
 pub mod functions;
 pub mod generate;
 pub mod listing;
@@ -13,5 +15,9 @@ pub mod random;
 pub mod refusal;
 pub mod replay;
 #[cfg(feature = "editor")]
+pub mod side_by_side;
+pub mod simulator;
+#[cfg(feature = "editor")]
 pub mod sts;
 pub mod tally;
+pub mod waves;

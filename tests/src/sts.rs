@@ -2,6 +2,7 @@
 //! refusal's number.
 
 use crate::functions::Operation;
+use crate::simulator::calls::Call;
 
 mod raw {
     /// Declares calls on a table: their first parameters are the same.
@@ -46,6 +47,60 @@ mod raw {
             low_length: usize,
             high: *mut u32,
             high_length: usize,
+        ) -> u32;
+    }
+
+    /// Declares calls that advance a run. Parameters that differ come first and
+    /// last; `used` stands between the table and the record.
+    macro_rules! calls_on_a_run {
+        ($($name:ident($($first:ident: $first_kind:ty)?; $($used:ident: $used_kind:ty)?);)*) => {
+            extern "C" {
+                $(pub fn $name(
+                    file: *const u8,
+                    file_length: usize,
+                    $($first: $first_kind,)?
+                    letter: *mut u32,
+                    letter_length: usize,
+                    low: *mut u32,
+                    low_length: usize,
+                    high: *mut u32,
+                    high_length: usize,
+                    $($used: $used_kind,)?
+                    record: *mut u32,
+                    record_length: usize,
+                    work_letter: *mut u32,
+                    work_letter_length: usize,
+                    work_low: *mut u32,
+                    work_low_length: usize,
+                    work_high: *mut u32,
+                    work_high_length: usize,
+                ) -> u32;)*
+            }
+        };
+    }
+
+    calls_on_a_run! {
+        sts_start(; used: u32);
+        sts_step(;);
+        sts_run(until: u32;);
+    }
+
+    extern "C" {
+        pub fn sts_ask(
+            file: *const u8,
+            file_length: usize,
+            letter: *const u32,
+            letter_length: usize,
+            low: *const u32,
+            low_length: usize,
+            high: *const u32,
+            high_length: usize,
+            record: *const u32,
+            record_length: usize,
+            node: u32,
+            pattern: u32,
+            answer: *mut u32,
+            answer_length: usize,
         ) -> u32;
     }
 }
@@ -119,6 +174,85 @@ pub fn call(
             on_the_table!(sts_number, *used, function, pattern, result)
         }
         Operation::Count { function } => on_the_table!(sts_count, *used, function, result),
+    }
+}
+
+/// What is lent to a call on a run. The calls take what concerns them.
+pub struct Lent<'a> {
+    pub table: [&'a mut [u32]; 3],
+    pub record: &'a mut [u32],
+    pub working: [&'a mut [u32]; 3],
+    pub answer: &'a mut [u32],
+}
+
+/// Calls the export of a call on a run.
+#[inline]
+pub fn call_on_run(call: Call, file: &[u8], lent: Lent) -> u32 {
+    let [letter, low, high] = lent.table;
+    let [work_letter, work_low, work_high] = lent.working;
+    let (record, answer) = (lent.record, lent.answer);
+    macro_rules! on_the_run {
+        ($name:ident, $($first:expr)?, $($used:expr)?) => {
+            // SAFETY: the pointers are valid for their lengths, and the borrows
+            // do not overlap.
+            unsafe {
+                raw::$name(
+                    file.as_ptr(),
+                    file.len(),
+                    $($first,)?
+                    letter.as_mut_ptr(),
+                    letter.len(),
+                    low.as_mut_ptr(),
+                    low.len(),
+                    high.as_mut_ptr(),
+                    high.len(),
+                    $($used,)?
+                    record.as_mut_ptr(),
+                    record.len(),
+                    work_letter.as_mut_ptr(),
+                    work_letter.len(),
+                    work_low.as_mut_ptr(),
+                    work_low.len(),
+                    work_high.as_mut_ptr(),
+                    work_high.len(),
+                )
+            }
+        };
+    }
+    match call {
+        Call::Start { used } => on_the_run!(sts_start, , used),
+        Call::Step => on_the_run!(sts_step, ,),
+        Call::Run { until } => on_the_run!(sts_run, until,),
+        // SAFETY: the pointers are valid for their lengths, and the borrows do not
+        // overlap.
+        Call::Ask { node, pattern } => unsafe {
+            raw::sts_ask(
+                file.as_ptr(),
+                file.len(),
+                letter.as_ptr(),
+                letter.len(),
+                low.as_ptr(),
+                low.len(),
+                high.as_ptr(),
+                high.len(),
+                record.as_ptr(),
+                record.len(),
+                node,
+                pattern,
+                answer.as_mut_ptr(),
+                answer.len(),
+            )
+        },
+    }
+}
+
+/// The name of the export of a call on a run.
+pub fn name_on_run(call: Call) -> &'static str {
+    match call {
+        Call::Start { .. } => "sts_start",
+        Call::Step => "sts_step",
+        Call::Run { .. } => "sts_run",
+        Call::Ask { .. } => "sts_ask",
     }
 }
 

@@ -1,5 +1,6 @@
 // Prints the listing of each named cell file. Arguments: a table length in entries (4,096 at most), then names, then another length, and so on.
 use listing::print_listing;
+ghost use Prim.Native.Nat.{_≤_};
 
 const OUT: i32 = 1;
 
@@ -14,7 +15,10 @@ fn main() {
 }
 
 // A number is a table length for the names after it; a name is a file whose listing is printed.
-fn argument(i: usize, size: usize) -> usize {
+fn argument(i: usize, size: usize) -> usize
+    requires { ⌜ size ≤ 4096 ⌝ }
+    ensures { λ r. ⌜ r ≤ 4096 ⌝ }
+{
     let mut space = [0u8; 4096];
     let n = os::arg(i, &mut space);
     let length = number(&space[..n]);
@@ -26,12 +30,17 @@ fn argument(i: usize, size: usize) -> usize {
 }
 
 // A number from 1 to 4,096, or 0 for any other text.
-fn number(text: &[u8]) -> usize {
+fn number(text: &[u8]) -> usize
+    ensures { λ r. ⌜ r ≤ 4096 ⌝ }
+{
     let mut value: usize = 0;
     let mut i: usize = 0;
     while i < text.len() {
         let digit = text[i];
-        if (digit < 48) | (57 < digit) {
+        if digit < 48 {
+            return 0;
+        }
+        if 57 < digit {
             return 0;
         }
         value = value * 10 + (digit - 48) as usize;
@@ -43,7 +52,9 @@ fn number(text: &[u8]) -> usize {
     value
 }
 
-fn print_named(name: &[u8], size: usize) {
+fn print_named(name: &[u8], size: usize)
+    requires { ⌜ size ≤ 4096 ⌝ }
+{
     io::write_all(OUT, name);
     io::write_all(OUT, b" ");
     io::print_decimal(OUT, size as u64);

@@ -100,7 +100,8 @@ fn zero_or_one(random: &mut Random, entries: &[Entry]) -> u32 {
     }
 }
 
-fn pattern(random: &mut Random, letters: u32) -> u32 {
+/// A pattern of so many letters; at times one that there is not.
+pub fn pattern(random: &mut Random, letters: u32) -> u32 {
     let end = 1 << letters.min(MOST_LETTERS);
     match random.one_in(8) {
         true => random.spread(end, u32::MAX),

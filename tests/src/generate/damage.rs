@@ -43,7 +43,9 @@ fn entries_for(refusal: Refusal) -> u32 {
     }
 }
 
-fn apply(random: &mut Random, layout: &mut Layout, refusal: Refusal) {
+/// Damages a legal file so that it is refused for this. A schedule whose order is
+/// to be damaged has two entries at least.
+pub fn apply(random: &mut Random, layout: &mut Layout, refusal: Refusal) {
     match refusal {
         Refusal::Length => length(random, layout),
         Refusal::Header => header(random, layout),

@@ -3,8 +3,11 @@
 
 pub mod calls;
 pub mod damage;
+pub mod faults;
 pub mod functions;
 pub mod legal;
+pub mod live;
+pub mod records;
 pub mod unsound;
 
 use crate::cell_file::{Layout, KINDS, RECORD};

@@ -3,9 +3,6 @@ use Prim.Native.Nat.{_≤_, _-_}
 use borrow.Author.Needs.{needs}
 use Rattle.listing.proofs.print_nodes.Statement.{statement}
 use Rattle.listing.proofs.print_nodes.Tie as tie
-use Rattle.listing.proofs.print_nodes.Reads as reads
-use Rattle.listing.proofs.print_nodes.Lts as lts
-use Rattle.listing.proofs.print_node.Reads as print-node-reads
 
 abbrev Inv-loop : tie.InvT-loop
 Inv-loop letter low high all before values nodes k used time i₀ i = i ≤ 24
@@ -13,59 +10,45 @@ Inv-loop letter low high all before values nodes k used time i₀ i = i ≤ 24
 abbrev μ-loop : tie.MeasureT-loop
 μ-loop letter low high all before values nodes k used time i₀ i = 24 - i
 
--- src/lib.rt:77:5
 loop-holds : tie.Need-loop-holds Inv-loop μ-loop
 loop-holds c = search needs
 
--- src/lib.rt:78:18
 cast-at : tie.Need-cast-at Inv-loop μ-loop
 cast-at c = search needs
 
--- src/lib.rt:79:34
 mul-if1 : tie.Need-mul-if1 Inv-loop μ-loop
 mul-if1 c = search needs
 
--- src/lib.rt:79:34
 array-read-if1 : tie.Need-array-read-if1 Inv-loop μ-loop
 array-read-if1 c = search needs
 
--- src/lib.rt:79:48
 mul-if1-2 : tie.Need-mul-if1-2 Inv-loop μ-loop
 mul-if1-2 c = search needs
 
--- src/lib.rt:79:48
 array-read-if1-2 : tie.Need-array-read-if1-2 Inv-loop μ-loop
 array-read-if1-2 c = search needs
 
--- src/lib.rt:80:58
 add-print-node : tie.Need-add-print-node Inv-loop μ-loop
 add-print-node c = search needs
 
--- src/lib.rt:80:65
 mul-print-node : tie.Need-mul-print-node Inv-loop μ-loop
 mul-print-node c = search needs
 
--- src/lib.rt:80:65
 array-read-print-node : tie.Need-array-read-print-node Inv-loop μ-loop
 array-read-print-node c = search needs
 
--- src/lib.rt:80:13
 print-node-requires : tie.Need-print-node-requires Inv-loop μ-loop
 print-node-requires c κs = search needs
 
--- src/lib.rt:82:9
 add-i : tie.Need-add-i Inv-loop μ-loop
 add-i c = search needs
 
--- src/lib.rt:77:5
 loop-less : tie.Need-loop-less Inv-loop μ-loop
 loop-less c = search needs
 
--- src/lib.rt:77:5
 loop-again : tie.Need-loop-again Inv-loop μ-loop
 loop-again c = search needs
 
--- src/lib.rt:62:1
 returns : tie.Need-returns Inv-loop μ-loop
 returns c = search needs
 

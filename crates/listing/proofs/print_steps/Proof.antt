@@ -5,11 +5,6 @@ use lib.ListN.{length}
 use borrow.Author.Needs.{needs}
 use Rattle.listing.proofs.print_steps.Statement.{statement}
 use Rattle.listing.proofs.print_steps.Tie as tie
-use Rattle.listing.proofs.print_steps.Reads as reads
-use Rattle.listing.proofs.print_steps.Lts as lts
-use Rattle.listing.proofs.print_nodes.Reads as print-nodes-reads
-use Rattle.listing.proofs.print_stop.Reads as print-stop-reads
-use Rattle.run.proofs.go.on_cell.Reads as on-cell-reads
 
 abbrev Inv-loop : tie.InvT-loop
 Inv-loop cell letter₀ low₀ high₀ wletter₀ wlow₀ whigh₀ header now₀ steps₀ letter low high wletter wlow whigh now steps =
@@ -21,95 +16,72 @@ abbrev μ-loop : tie.MeasureT-loop
 μ-loop cell letter₀ low₀ high₀ wletter₀ wlow₀ whigh₀ header now₀ steps₀ letter low high wletter wlow whigh now steps =
     1000001 - steps
 
--- src/lib.rt:123:5
 loop-holds : tie.Need-loop-holds Inv-loop μ-loop
 loop-holds c = search needs
 
--- src/lib.rt:126:13
 on-cell-requires : tie.Need-on-cell-requires Inv-loop μ-loop
 on-cell-requires c κs = search needs
 
--- src/lib.rt:141:17
 enum-told : tie.Need-enum-told Inv-loop μ-loop
 enum-told c = search needs
 
--- src/lib.rt:142:17
 add-steps : tie.Need-add-steps Inv-loop μ-loop
 add-steps c = search needs
 
--- src/lib.rt:143:17
 print-nodes-requires : tie.Need-print-nodes-requires Inv-loop μ-loop
 print-nodes-requires c κs = search needs
 
--- src/lib.rt:123:5
 loop-less : tie.Need-loop-less Inv-loop μ-loop
 loop-less c = search needs
 
--- src/lib.rt:123:5
 loop-again : tie.Need-loop-again Inv-loop μ-loop
 loop-again c = search needs
 
--- src/lib.rt:145:28
 enum-known-reply : tie.Need-enum-known-reply Inv-loop μ-loop
 enum-known-reply c = search needs
 
--- src/lib.rt:146:17
 print-stop-requires : tie.Need-print-stop-requires Inv-loop μ-loop
 print-stop-requires c κs = search needs
 
--- src/lib.rt:147:17
 same-length : tie.Need-same-length Inv-loop μ-loop
 same-length c = search needs
 
--- src/lib.rt:147:17
 same-length-2 : tie.Need-same-length-2 Inv-loop μ-loop
 same-length-2 c = search needs
 
--- src/lib.rt:147:17
 same-length-3 : tie.Need-same-length-3 Inv-loop μ-loop
 same-length-3 c = search needs
 
--- src/lib.rt:147:17
 same-length-4 : tie.Need-same-length-4 Inv-loop μ-loop
 same-length-4 c = search needs
 
--- src/lib.rt:147:17
 same-length-5 : tie.Need-same-length-5 Inv-loop μ-loop
 same-length-5 c = search needs
 
--- src/lib.rt:147:17
 same-length-6 : tie.Need-same-length-6 Inv-loop μ-loop
 same-length-6 c = search needs
 
--- src/lib.rt:147:17
 returns : tie.Need-returns Inv-loop μ-loop
 returns c = search needs
 
--- src/lib.rt:110:1
 same-length-7 : tie.Need-same-length-7 Inv-loop μ-loop
 same-length-7 c = search needs
 
--- src/lib.rt:110:1
 same-length-8 : tie.Need-same-length-8 Inv-loop μ-loop
 same-length-8 c = search needs
 
--- src/lib.rt:110:1
 same-length-9 : tie.Need-same-length-9 Inv-loop μ-loop
 same-length-9 c = search needs
 
--- src/lib.rt:110:1
 same-length-10 : tie.Need-same-length-10 Inv-loop μ-loop
 same-length-10 c = search needs
 
--- src/lib.rt:110:1
 same-length-11 : tie.Need-same-length-11 Inv-loop μ-loop
 same-length-11 c = search needs
 
--- src/lib.rt:110:1
 same-length-12 : tie.Need-same-length-12 Inv-loop μ-loop
 same-length-12 c = search needs
 
--- src/lib.rt:110:1
 returns-2 : tie.Need-returns-2 Inv-loop μ-loop
 returns-2 c = search needs
 

@@ -1,0 +1,153 @@
+//! A cell as the rules see it: nodes by number, rails among them, the channels at
+//! each node, and the groups.
+
+use crate::cell_file::{Cell, Channel, Role, FIRST_NODE};
+use std::ops::Range;
+
+/// The number of the supply; 0 is ground.
+pub const SUPPLY: usize = 1;
+
+/// A cell with what follows from its transistors alone.
+#[derive(Clone, Debug)]
+pub struct Circuit<'a> {
+    pub cell: &'a Cell,
+    /// For each node, the transistors with an end there, rising.
+    channels: Vec<Vec<usize>>,
+    /// For each node, the least number in its group. A driven node is in none and
+    /// has its own number here.
+    groups: Vec<usize>,
+}
+
+impl<'a> Circuit<'a> {
+    pub fn new(cell: &'a Cell) -> Circuit<'a> {
+        let mut circuit = Circuit {
+            cell,
+            channels: vec![Vec::new(); FIRST_NODE + cell.nodes.len()],
+            groups: (0..FIRST_NODE + cell.nodes.len()).collect(),
+        };
+        for transistor in 0..cell.transistors.len() {
+            let [one, other] = circuit.ends(transistor);
+            circuit.channels[one].push(transistor);
+            circuit.channels[other].push(transistor);
+            if circuit.is_inner(one) && circuit.is_inner(other) {
+                unite(&mut circuit.groups, one, other);
+            }
+        }
+        circuit
+    }
+
+    /// How many nodes there are, with the rails.
+    pub fn nodes(&self) -> usize {
+        self.channels.len()
+    }
+
+    /// The numbers of the node records.
+    pub fn records(&self) -> Range<usize> {
+        FIRST_NODE..self.nodes()
+    }
+
+    /// How many patterns there are.
+    pub fn patterns(&self) -> usize {
+        1 << self.cell.letters
+    }
+
+    /// The capacitance of an inner node; none of a rail or an input.
+    pub fn capacitance(&self, node: usize) -> Option<u64> {
+        let record = self.cell.nodes.get(node.checked_sub(FIRST_NODE)?)?;
+        match record.role {
+            Role::Inner { capacitance } => Some(u64::from(capacitance)),
+            Role::Input => None,
+        }
+    }
+
+    pub fn is_inner(&self, node: usize) -> bool {
+        self.capacitance(node).is_some()
+    }
+
+    pub fn is_input(&self, node: usize) -> bool {
+        node >= FIRST_NODE && !self.is_inner(node)
+    }
+
+    /// The ends of a transistor.
+    pub fn ends(&self, transistor: usize) -> [usize; 2] {
+        self.cell.transistors[transistor].ends.map(usize::from)
+    }
+
+    pub fn gate(&self, transistor: usize) -> usize {
+        usize::from(self.cell.transistors[transistor].gate)
+    }
+
+    /// The end of a transistor that is not this one.
+    pub fn far_end(&self, transistor: usize, near: usize) -> usize {
+        let [one, other] = self.ends(transistor);
+        if one == near {
+            other
+        } else {
+            one
+        }
+    }
+
+    pub fn resistance(&self, transistor: usize) -> u32 {
+        self.cell.transistors[transistor].resistance
+    }
+
+    /// The transistors with an end at this node, rising.
+    pub fn channels(&self, node: usize) -> &[usize] {
+        &self.channels[node]
+    }
+
+    /// A name of the group of an inner node.
+    pub fn group(&self, node: usize) -> usize {
+        self.groups[node]
+    }
+
+    /// The transistor conducts.
+    pub fn conducts(&self, transistor: usize, values: &[bool]) -> bool {
+        match self.cell.transistors[transistor].channel {
+            Channel::N => values[self.gate(transistor)],
+            Channel::P => !values[self.gate(transistor)],
+        }
+    }
+
+    /// Rule 2: the groups that are touched where these nodes changed value, as
+    /// one answer for each node that names a group.
+    pub fn touched(&self, changed: &[bool]) -> Vec<bool> {
+        let mut touched = vec![false; self.nodes()];
+        for transistor in 0..self.cell.transistors.len() {
+            for end in self.ends(transistor) {
+                let far = self.far_end(transistor, end);
+                let reason = changed[self.gate(transistor)] || self.is_input(far) && changed[far];
+                if self.is_inner(end) && reason {
+                    touched[self.group(end)] = true;
+                }
+            }
+        }
+        touched
+    }
+
+    /// Rule 3: whether each transistor is kept.
+    pub fn kept(&self, values: &[bool]) -> Vec<bool> {
+        // Two inner nodes are joined if they have the same number here.
+        let mut joined: Vec<usize> = (0..self.nodes()).collect();
+        let keep = |transistor| {
+            let [one, other] = self.ends(transistor);
+            if !self.conducts(transistor, values) {
+                return false;
+            }
+            if !self.is_inner(one) || !self.is_inner(other) {
+                return true;
+            }
+            unite(&mut joined, one, other)
+        };
+        (0..self.cell.transistors.len()).map(keep).collect()
+    }
+}
+
+/// Gives the nodes of two sets the smaller of their names; false if it was one set.
+fn unite(names: &mut [usize], one: usize, other: usize) -> bool {
+    let (new, old) = (names[one].min(names[other]), names[one].max(names[other]));
+    for name in names.iter_mut().filter(|name| **name == old) {
+        *name = new;
+    }
+    new != old
+}

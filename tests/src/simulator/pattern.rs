@@ -1,0 +1,99 @@
+//! One pattern: its start and its steps.
+
+use super::circuit::{Circuit, SUPPLY};
+use super::walk::Walk;
+use crate::cell_file::FIRST_NODE;
+use crate::functions::NEVER;
+
+/// All nodes at one pattern, by number and with the rails.
+#[derive(Clone, Debug, PartialEq, Eq)]
+pub struct State {
+    pub values: Vec<bool>,
+    /// The time of each node's next change, or never.
+    pub next: Vec<u32>,
+}
+
+impl State {
+    /// The rails as they always are and all else low, with no change pending.
+    pub fn blank(circuit: &Circuit) -> State {
+        let mut values = vec![false; circuit.nodes()];
+        values[SUPPLY] = true;
+        State {
+            values,
+            next: vec![NEVER; circuit.nodes()],
+        }
+    }
+
+    /// The start: all nodes take their sources, and every group is touched.
+    pub fn start(circuit: &Circuit, pattern: usize) -> State {
+        let mut state = State::blank(circuit);
+        for (number, node) in (FIRST_NODE..).zip(&circuit.cell.nodes) {
+            state.values[number] = node.start.at(pattern);
+        }
+        state.consider(circuit, 0, &vec![true; circuit.nodes()]);
+        state
+    }
+
+    /// The step to a time, which may be one at which nothing happens here.
+    pub fn step(&mut self, circuit: &Circuit, pattern: usize, time: u32) {
+        let before = self.values.clone();
+        self.arrive(circuit, pattern, time);
+        if self.values != before {
+            let pairs = before.iter().zip(&self.values);
+            let changed: Vec<bool> = pairs.map(|(old, new)| old != new).collect();
+            self.consider(circuit, time, &circuit.touched(&changed));
+        }
+    }
+
+    /// Rule 1: inputs take what is scheduled, and nodes flip.
+    fn arrive(&mut self, circuit: &Circuit, pattern: usize, time: u32) {
+        for entry in circuit
+            .cell
+            .schedule
+            .iter()
+            .filter(|entry| entry.time == time)
+        {
+            self.values[usize::from(entry.node)] = entry.source.at(pattern);
+        }
+        for node in circuit.records() {
+            if self.next[node] == time {
+                self.values[node] = !self.values[node];
+                self.next[node] = NEVER;
+            }
+        }
+    }
+
+    /// Rules 3 to 7 for the nodes of touched groups.
+    fn consider(&mut self, circuit: &Circuit, time: u32, touched: &[bool]) {
+        if !touched.contains(&true) {
+            return;
+        }
+        let kept = circuit.kept(&self.values);
+        let walk = Walk {
+            circuit,
+            values: &self.values,
+            kept: &kept,
+        };
+        for node in circuit.records() {
+            if circuit.is_inner(node) && touched[circuit.group(node)] {
+                self.next[node] = next_change(&walk, node, self.next[node], time);
+            }
+        }
+    }
+}
+
+/// Rules 4 to 7: the next change of a node whose group is touched.
+fn next_change(walk: &Walk, node: usize, pending: u32, time: u32) -> u32 {
+    let present = walk.values[node];
+    let new = walk.sum(node, None).value(present);
+    if new == present {
+        return NEVER;
+    }
+    let due = u64::from(time) + walk.load(node, None, new).delay();
+    let earlier = due.min(u64::from(pending));
+    if earlier > u64::from(walk.circuit.cell.horizon) {
+        NEVER
+    } else {
+        earlier as u32
+    }
+}

@@ -1,0 +1,72 @@
+//! What a run will come to, worked out before it is made: so that lengths and
+//! times can be chosen about those that matter.
+
+use super::circuit::Circuit;
+use super::run::{Run, Stored};
+use crate::functions::{Table, LENGTHS};
+
+/// The start or a step: its time, and how many entries the table then holds.
+#[derive(Clone, Copy, Debug, PartialEq, Eq)]
+pub struct Moment {
+    pub time: u32,
+    pub used: usize,
+}
+
+/// The beginning of a run.
+#[derive(Clone, Debug)]
+pub struct Trial {
+    /// The start and the first steps.
+    pub moments: Vec<Moment>,
+    /// The time of the next step, if there is one.
+    pub next: Option<u32>,
+    /// The most node values that changed in one step, each for some pattern.
+    pub together: usize,
+}
+
+impl Trial {
+    /// Runs a cell in a table until it is finished, the table is full at its
+    /// longest, or so many states were worked out.
+    pub fn of(circuit: &Circuit, mut table: Table, states: usize) -> Trial {
+        let mut run = Run::start(circuit);
+        let mut stored = Stored::default();
+        stored.update(&run, circuit, &mut table);
+        let mut trial = Trial {
+            moments: Vec::new(),
+            next: None,
+            together: 0,
+        };
+        loop {
+            trial.moments.push(Moment {
+                time: run.now,
+                used: table.entries().len(),
+            });
+            trial.next = run.next_time(circuit);
+            let spent = trial.moments.len() * run.states.len();
+            match trial.next {
+                Some(time) if spent < states && table.entries().len() <= *LENGTHS.end() => {
+                    run.step(circuit, time)
+                }
+                _ => return trial,
+            }
+            let before = stored.entries.clone();
+            stored.update(&run, circuit, &mut table);
+            let nodes = circuit.cell.nodes.len();
+            let pairs = before.iter().zip(&stored.entries).take(nodes);
+            let moved = pairs.filter(|(old, new)| old != new).count();
+            trial.together = trial.together.max(moved);
+        }
+    }
+
+    /// The last picosecond up to which a run takes no other steps than these.
+    pub fn last(&self) -> u32 {
+        self.next.map_or(u32::MAX, |time| time - 1)
+    }
+
+    /// How many of the moments are after one time and not after another.
+    pub fn between(&self, after: u32, until: u32) -> usize {
+        let moments = self.moments.iter().skip(1);
+        moments
+            .filter(|moment| after < moment.time && moment.time <= until)
+            .count()
+    }
+}
