@@ -5,8 +5,13 @@ use refusal::Refusal;
 use refusal::Reply;
 use step::Next;
 use table::clear;
+ghost use mathlib.Core.Path.{_≡_};
+ghost use Rattle.refusal.specs.declared.Reply.the-variants.{Refused};
+ghost use Rattle.advance.specs.Reached.{Closed};
 
-pub fn refused(why: Refusal, r: Run) -> Went {
+pub fn refused(why: Refusal, r: Run) -> Went
+    ensures { λ x. ⌜ (x .reply ≡ Refused why) × (x .run ≡ r) ⌝ }
+{
     Went {
         reply: Reply::Refused(why),
         run: r,
@@ -21,7 +26,9 @@ pub fn closed(
     used: u32,
     r: Run,
     next: Next,
-) -> Went {
+) -> Went
+    ensures { λ x. ⌜ Closed (now (letter .entry)) (now (low .entry)) (now (high .entry)) (now (letter .exit)) (now (low .exit)) (now (high .exit)) used r (next .full) (next .run) (x .reply) (x .run) ⌝ }
+{
     if next.full {
         clear(letter, low, high, used);
         return refused(Refusal::Full, r);

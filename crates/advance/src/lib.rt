@@ -23,7 +23,9 @@ ghost use Rattle.rules.specs.Call.{workingLegal};
 ghost use Rattle.table.specs.Holds.{columns, Sized, Empty};
 ghost use Rattle.net.specs.Net.{netCircuit};
 ghost use Rattle.net.specs.Laid.{Laid};
+ghost use Rattle.advance.specs.declared.Task.the-variants.{Start, Step, Until};
 ghost use Rattle.advance.specs.Task.{taskCall};
+ghost use Rattle.advance.specs.Reached.{Together};
 ghost use Rattle.advance.specs.Went.{WentAs};
 
 // What is to be done: a start in a table with so many entries used, a step, or every step not later than a time.
@@ -49,7 +51,10 @@ fn sound_together(
     high: &[u32],
     index: &mut [u32],
     r: Run,
-) -> bool {
+) -> bool
+    requires { ⌜ Laid (netCircuit (now net)) (now net) × Sized (now letter) (now low) (now high) (now index) × Empty (now index) ⌝ }
+    ensures { λ x. ⌜ Together (now (net .entry)) (now (letter .entry)) (now (low .entry)) (now (high .entry)) (now (index .exit)) r x ⌝ }
+{
     let k = net[net::LETTERS];
     let used = r.used;
     if !sound(k, letter, low, high, used, index) {
@@ -70,7 +75,11 @@ fn start_task(
     wlow: &mut [u32],
     whigh: &mut [u32],
     windex: &mut [u32],
-) -> Went {
+) -> Went
+    requires { ⌜ Laid (netCircuit (now net)) (now net) × (lengthsLegal (columns (now letter) (now low) (now high)) ≡ true) × (workingLegal (columns (now wletter) (now wlow) (now whigh)) ≡ true) ⌝ }
+    requires { ⌜ Sized (now letter) (now low) (now high) (now index) × Empty (now index) × Sized (now wletter) (now wlow) (now whigh) (now windex) ⌝ }
+    ensures { λ x. ⌜ WentAs (columns (now (letter .entry)) (now (low .entry)) (now (high .entry))) (columns (now (letter .exit)) (now (low .exit)) (now (high .exit))) r (taskCall (answered (netCircuit (now (net .entry)))) (Start used) (columns (now (letter .entry)) (now (low .entry)) (now (high .entry))) r (columns (now (wletter .entry)) (now (wlow .entry)) (now (whigh .entry)))) (x .reply) (x .run) ⌝ }
+{
     let k = net[net::LETTERS];
     if !sound(k, letter, low, high, used, index) {
         return refused(Refusal::Unsound, r);
@@ -101,7 +110,11 @@ fn step_task(
     wlow: &mut [u32],
     whigh: &mut [u32],
     windex: &mut [u32],
-) -> Went {
+) -> Went
+    requires { ⌜ Laid (netCircuit (now net)) (now net) × (lengthsLegal (columns (now letter) (now low) (now high)) ≡ true) × (workingLegal (columns (now wletter) (now wlow) (now whigh)) ≡ true) ⌝ }
+    requires { ⌜ Sized (now letter) (now low) (now high) (now index) × Empty (now index) × Sized (now wletter) (now wlow) (now whigh) (now windex) ⌝ }
+    ensures { λ x. ⌜ WentAs (columns (now (letter .entry)) (now (low .entry)) (now (high .entry))) (columns (now (letter .exit)) (now (low .exit)) (now (high .exit))) r (taskCall (answered (netCircuit (now (net .entry)))) Step (columns (now (letter .entry)) (now (low .entry)) (now (high .entry))) r (columns (now (wletter .entry)) (now (wlow .entry)) (now (whigh .entry)))) (x .reply) (x .run) ⌝ }
+{
     if !sound_together(net, letter, low, high, index, r) {
         return refused(Refusal::Unsound, r);
     }
@@ -137,7 +150,11 @@ fn run_task(
     whigh: &mut [u32],
     windex: &mut [u32],
     until: u32,
-) -> Went {
+) -> Went
+    requires { ⌜ Laid (netCircuit (now net)) (now net) × (lengthsLegal (columns (now letter) (now low) (now high)) ≡ true) × (workingLegal (columns (now wletter) (now wlow) (now whigh)) ≡ true) ⌝ }
+    requires { ⌜ Sized (now letter) (now low) (now high) (now index) × Empty (now index) × Sized (now wletter) (now wlow) (now whigh) (now windex) ⌝ }
+    ensures { λ x. ⌜ WentAs (columns (now (letter .entry)) (now (low .entry)) (now (high .entry))) (columns (now (letter .exit)) (now (low .exit)) (now (high .exit))) r (taskCall (answered (netCircuit (now (net .entry)))) (Until until) (columns (now (letter .entry)) (now (low .entry)) (now (high .entry))) r (columns (now (wletter .entry)) (now (wlow .entry)) (now (whigh .entry)))) (x .reply) (x .run) ⌝ }
+{
     if !sound_together(net, letter, low, high, index, r) {
         return refused(Refusal::Unsound, r);
     }

@@ -3,11 +3,28 @@ use record::Run;
 use record::time_after;
 use step::Next;
 use step::step;
+ghost use mathlib.Core.Path.{_≡_};
+ghost use mathlib.Core.Bool.{true};
+ghost use Prim.Native.Nat.{_≤_};
+ghost use lib.ListN.{length, take};
+ghost use Rattle.lists.specs.Padded.{padded};
+ghost use Rattle.diagram.specs.Call.{tableOf};
+ghost use Rattle.table.specs.Holds.{columns, Sized};
+ghost use Rattle.functions.specs.Open.{Open};
+ghost use Rattle.rules.specs.Run.{runMoment, runSound};
+ghost use Rattle.rules.specs.Call.{momentGiven};
+ghost use Rattle.record.specs.Record.{runOf, recordOf};
+ghost use Rattle.net.specs.Net.{lettersPlace, at as atPlace, netCircuit};
+ghost use Rattle.net.specs.Laid.{Laid};
+ghost use Rattle.advance.specs.Reached.{Reached};
 
 const NEVER: u32 = 4294967295;
 
 // The first entries, 0 past them.
-fn firsts(entries: [u32; 24], count: usize) -> [u32; 24] {
+fn firsts(entries: [u32; 24], count: usize) -> [u32; 24]
+    requires { ⌜ count ≤ 24 ⌝ }
+    ensures { λ x. ⌜ x ≡ padded 24 0 (take count entries) ⌝ }
+{
     let mut out = [0u32; 24];
     let mut i = 0;
     while i < count {
@@ -18,7 +35,10 @@ fn firsts(entries: [u32; 24], count: usize) -> [u32; 24] {
 }
 
 // The run with zeros past the node records.
-fn tidy(net: &[u32], r: Run) -> Run {
+fn tidy(net: &[u32], r: Run) -> Run
+    requires { ⌜ Laid (netCircuit (now net)) (now net) ⌝ }
+    ensures { λ x. ⌜ x ≡ recordOf (runOf (netCircuit (now (net .entry))) r) ⌝ }
+{
     let count = net[net::NODES] as usize;
     let values = r.values;
     let changes = r.changes;
@@ -43,7 +63,11 @@ pub fn steps(
     whigh: &mut [u32],
     windex: &mut [u32],
     until: u32,
-) -> Next {
+) -> Next
+    requires { ⌜ Laid (netCircuit (now net)) (now net) × Open (atPlace (now net) lettersPlace) (now letter) (now low) (now high) (now index) (r .used) × Sized (now wletter) (now wlow) (now whigh) (now windex) ⌝ }
+    requires { ⌜ runSound (netCircuit (now net)) (tableOf (columns (now letter) (now low) (now high)) (r .used)) (runOf (netCircuit (now net)) r) ≡ true ⌝ }
+    ensures { λ x. ⌜ Reached (tableOf (columns (now (letter .entry)) (now (low .entry)) (now (high .entry))) (r .used)) (runMoment (netCircuit (now (net .entry)) .horizon .0) (netCircuit (now (net .entry))) until (length (now (letter .entry))) (momentGiven (columns (now (letter .entry)) (now (low .entry)) (now (high .entry))) (runOf (netCircuit (now (net .entry))) r))) (now (letter .exit)) (now (low .exit)) (now (high .exit)) (now (index .exit)) (x .full) (x .run) ⌝ }
+{
     let mut now = tidy(net, r);
     let mut time = time_after(net, letter, low, high, now);
     while (time != NEVER) & (time <= until) {

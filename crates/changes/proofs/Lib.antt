@@ -1,0 +1,5 @@
+pub mod Placed
+pub mod Single
+pub mod Rooting
+pub mod Evaluating
+pub mod Preparing

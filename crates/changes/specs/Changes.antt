@@ -11,14 +11,21 @@ use Rattle.diagram.specs.Table.{Table, never, numberAt}
 use Rattle.rules.specs.State.{isInner}
 use Rattle.attempt.specs.Change.{numbersLength, changeBy}
 
--- the entries by which node n is evaluated
-abbrev pub entriesFor : List ℕ → List ℕ → List ℕ → ℕ → List ℕ
-entriesFor before after pending n = padded numbersLength 0 (before ++ after ++ getD pending n 0 ∷ [])
+-- the entries by which a node with a pending change is evaluated
+abbrev pub entriesWith : List ℕ → List ℕ → ℕ → List ℕ
+entriesWith before after change = padded numbersLength 0 (before ++ after ++ change ∷ [])
 
--- the next change of node n at a pattern: an input has none
+-- those of node n
+abbrev pub entriesFor : List ℕ → List ℕ → List ℕ → ℕ → List ℕ
+entriesFor before after pending n = entriesWith before after (getD pending n 0)
+
+-- the next change of node n at a pattern by some entries: an input has none
+abbrev pub changeWith : Circuit → ℕ → Bool → ℕ → Table → List ℕ → ℕ → ℕ → ℕ
+changeWith c time all letters t entries n p = cond (isInner c n) (changeBy c time all n letters t entries p) never
+
+-- and by the entries for it
 abbrev pub changeOf : Circuit → ℕ → Bool → ℕ → Table → List ℕ → List ℕ → List ℕ → ℕ → ℕ → ℕ
-changeOf c time all letters t before after pending n p =
-    cond (isInner c n) (changeBy c time all n letters t (entriesFor before after pending n) p) never
+changeOf c time all letters t before after pending n p = changeWith c time all letters t (entriesFor before after pending n) n p
 
 -- 26 entries of the table; the rails' are their terminals, and all are bits
 pub record ValueEntries (letters : ℕ) (t : Table) (used : ℕ) (entries : List ℕ) : Type 0 where

@@ -8,6 +8,7 @@ use values::arrive::arrive;
 use values::source::sources;
 ghost use mathlib.Core.Path.{_≡_};
 ghost use mathlib.Core.Bool.{true};
+ghost use Prim.Native.Nat.{_≤_};
 ghost use Rattle.diagram.specs.Call.{tableOf};
 ghost use Rattle.table.specs.Holds.{columns, Sized};
 ghost use Rattle.functions.specs.Open.{Open};
@@ -16,6 +17,7 @@ ghost use Rattle.rules.specs.Call.{momentGiven};
 ghost use Rattle.record.specs.Record.{runOf};
 ghost use Rattle.net.specs.Net.{lettersPlace, at as atPlace, netCircuit};
 ghost use Rattle.net.specs.Laid.{Laid};
+ghost use Rattle.step.specs.ByNode.{ByNode, Gathers};
 ghost use Rattle.step.specs.Next.{NextAs};
 
 // The run after a start or a step, unless there was no room.
@@ -25,7 +27,10 @@ pub struct Next {
 }
 
 // The first entries by node number behind those of the rails, 0 past them.
-fn by_number(ground: u32, supply: u32, entries: [u32; 24], count: usize) -> [u32; 26] {
+fn by_number(ground: u32, supply: u32, entries: [u32; 24], count: usize) -> [u32; 26]
+    requires { ⌜ count ≤ 24 ⌝ }
+    ensures { λ r. ⌜ ByNode ground supply entries count r ⌝ }
+{
     let mut out = [0u32; 26];
     out[0] = ground;
     out[1] = supply;
@@ -37,7 +42,9 @@ fn by_number(ground: u32, supply: u32, entries: [u32; 24], count: usize) -> [u32
     out
 }
 
-fn no_room() -> Next {
+fn no_room() -> Next
+    ensures { λ x. ⌜ x .full ≡ true ⌝ }
+{
     Next {
         full: true,
         run: Run {
@@ -50,7 +57,9 @@ fn no_room() -> Next {
 }
 
 // The run of values and next changes that were stored.
-fn gathered(time: u32, values: [u32; 24], c: Many) -> Next {
+fn gathered(time: u32, values: [u32; 24], c: Many) -> Next
+    ensures { λ x. ⌜ Gathers time values (c .full) (c .used) (c .entries) (x .full) (x .run) ⌝ }
+{
     if c.full {
         return no_room();
     }

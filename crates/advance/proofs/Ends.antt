@@ -1,0 +1,160 @@
+-- What a task leaves, at each of its ends.
+use mathlib.Core.Path.{_≡_, refl, sym, _∙_, ap, subst}
+use mathlib.Core.Logic.{⊎-elim}
+use mathlib.Core.List.{List}
+use mathlib.Core.Bool.{Bool, true, false}
+use Prim.Native.Nat.{ℕ, _<_, _≤_}
+use native.Mathlib.Omega.{arith}
+use lib.ListN.{length}
+use lib.Dec.{ltb}
+use borrow.Author.Tests.{lt-ltb, le-ltb, ltb-true, ltb-false}
+use Rattle.refusal.specs.declared.Refusal.{Refusal}
+use Rattle.refusal.specs.declared.Refusal.the-variants.{Full, Unsound, Finished}
+use Rattle.refusal.specs.declared.Reply.{Reply}
+use Rattle.refusal.specs.declared.Reply.the-variants.{Done, Refused}
+use Rattle.refusal.specs.Answer.{Answer, refused, answered, check}
+use Rattle.lists.proofs.Cases.{bool-cases, and-right, true-false}
+use Rattle.format.specs.Circuit.{Circuit}
+use Rattle.diagram.specs.Table.{Table, never}
+use Rattle.diagram.specs.Call.{Columns, lengthsLegal, columnsSound, tableOf, columnsOf}
+use Rattle.diagram.proofs.Columns.{ColumnsSound, columns-record, columns-path}
+use Rattle.rules.specs.Run.{Moment, startMoment, timeAfter, stepMoment, fitting, runMoment, runSound}
+use Rattle.rules.specs.Call.{workingLegal, momentGiven, startCall, stepCall, runCall}
+use Rattle.rules.proofs.Moment.{time-never}
+use Rattle.rules.proofs.RunSteps.{fitting-fits, fitting-full}
+use Rattle.table.specs.Holds.{columns, Holds, Kept, Judged, zeroFrom}
+use Rattle.table.proofs.Clearing.{kept-restored}
+use Rattle.functions.specs.Open.{Open}
+use Rattle.functions.proofs.Carry.{open-next}
+use Rattle.net.specs.Net.{lettersPlace, at, netCircuit}
+use Rattle.net.specs.Laid.{Laid}
+use Rattle.record.specs.declared.Run.{Run}
+use Rattle.record.specs.Record.{runOf}
+use Rattle.step.specs.Next.{NextAs}
+use Rattle.advance.specs.declared.Task.the-variants.{Start, Step, Until}
+use Rattle.advance.specs.Task.{taskCall}
+use Rattle.advance.specs.Went.{WentAs}
+use Rattle.advance.specs.Reached.{Together, Left, Reached, Closed}
+
+-- the letters of the cell stand at their place
+pub letters-at : (net : List ℕ) → netCircuit net .letters ≡ at net lettersPlace
+unfolding netCircuit
+letters-at net = refl
+
+-- a table that was found sound is open to storing
+pub judged-open : {net l w h ix : List ℕ} {used : ℕ} {x : Bool} → Laid (netCircuit net) net → Judged (at net lettersPlace) l w h used ix x → x ≡ true
+    → Open (at net lettersPlace) l w h ix used
+judged-open {net} {l} {w} {h} {ix} {used} laid j e =
+    let s : ColumnsSound (at net lettersPlace) (columns l w h) used = columns-record (at net lettersPlace) (columns l w h) used (sym (j .is) ∙ e) in
+    open-next (laid .within .letters) (s .table) (j .holds e)
+
+-- a start or a step, as a task leaves it
+pub next-reached : {t : Table} {m : Moment} {l w h ix : List ℕ} {full : Bool} {r : Run} (size : ℕ) → length l ≡ size → NextAs t m l w h ix full r
+    → Reached t (fitting size m) l w h ix full r
+next-reached {t} {m} {l} {w} {h} {ix} {full} {r} size long n = record {
+  over = λ e. let o : length l < length (m .table) = ltb-true (length l) (length (m .table)) (sym (n .full-is) ∙ e) in fitting-full size m (omega arith);
+  fits = λ e.
+      let o : length (m .table) ≤ length l = ltb-false (length l) (length (m .table)) (sym (n .full-is) ∙ e) in
+      record { moment = m; is = fitting-fits size m (omega arith); run-is = n .run-is e; holds = n .holds e };
+  kept = n .kept;
+}
+
+-- a refused task leaves all as it was
+pub went-refused : {table : Columns} {r r′ : Run} {answer : Answer Moment} {reply : Reply} (why : Refusal) → answer ≡ refused why → (reply ≡ Refused why) × (r′ ≡ r)
+    → WentAs table table r answer reply r′
+went-refused why e x = rw e record { reply-is = x .0; run-is = x .1; table-is = refl }
+
+-- what was reached is left, or cleared again
+pub went-closed : {l w h ix l1 w1 h1 ix1 l2 w2 h2 : List ℕ} {t : Table} {used : ℕ} {r next r′ : Run} {call answer : Answer Moment} {full : Bool} {reply : Reply}
+    → Holds l w h ix t used → length l1 ≡ length l → call ≡ answer → Reached t answer l1 w1 h1 ix1 full next → Closed l1 w1 h1 l2 w2 h2 used r full next reply r′
+    → WentAs (columns l w h) (columns l2 w2 h2) r call reply r′
+went-closed {l} {w} {h} {ix} {l1} {w1} {h1} {ix1} {l2} {w2} {h2} {t} {used} {r} {next} {r′} {call} {answer} {full} {reply} held long same o d =
+    ⊎-elim
+    (λ (e : full ≡ true).
+    let restored : columns l2 w2 h2 ≡ columns l w h = d .cleared e ∙ kept-restored held (subst (λ (n : ℕ). Kept l1 w1 h1 n t) long (o .kept)) in
+    rw (same ∙ o .over e, restored) record { reply-is = d .refused e .0; run-is = d .refused e .1; table-is = refl })
+    (λ (e : full ≡ false).
+    let left : Left answer l1 w1 h1 ix1 next = o .fits e in
+    rw (same ∙ left .is)
+    record {
+      reply-is = d .done e .0;
+      run-is = d .done e .1 ∙ left .run-is;
+      table-is = d .kept e ∙ left .holds .is ∙ ap (λ (n : ℕ). columnsOf n (left .moment .table)) long;
+    })
+    (bool-cases full)
+
+-- the end of a task, with and without room
+pub closed-full : {l w h l′ w′ h′ : List ℕ} {used : ℕ} {r next r′ : Run} {full : Bool} {reply : Reply} → full ≡ true
+    → (l′ ≡ zeroFrom used l) × (w′ ≡ zeroFrom used w) × (h′ ≡ zeroFrom used h) → (reply ≡ Refused Full) × (r′ ≡ r)
+    → Closed l w h l′ w′ h′ used r full next reply r′
+closed-full {full = full} e z x = record {
+  cleared = λ _. columns-path _ _ (z .0) (z .1) (z .2);
+  refused = λ _. x;
+  kept = λ room. true-false full e room;
+  done = λ room. true-false full e room;
+}
+
+pub closed-done : {l w h : List ℕ} {used : ℕ} {r next : Run} {full : Bool} → full ≡ false → Closed l w h l w h used r full next Done next
+closed-done {full = full} e = record {
+  cleared = λ over. true-false full over e;
+  refused = λ over. true-false full over e;
+  kept = λ _. refl;
+  done = λ _. (refl, refl);
+}
+
+-- whether table and run are sound together
+module _ {net l w h ix : List ℕ} {r : Run} {x : Bool} (laid : Laid (netCircuit net) net) (j : Judged (at net lettersPlace) l w h (r .used) ix x) where
+  pub together-table : x ≡ false → Together net l w h ix r false
+  together-table e = record { is = rw (letters-at net, ← j .is, e); opened = λ o. true-false false o refl }
+
+  pub together-run : x ≡ true → (y : Bool) → y ≡ runSound (netCircuit net) (tableOf (columns l w h) (r .used)) (runOf (netCircuit net) r) → Together net l w h ix r y
+  together-run e y o = record { is = o ∙ rw (letters-at net, ← j .is, e); opened = λ _. judged-open laid j e }
+
+pub together-sound : {net l w h ix : List ℕ} {r : Run} {x : Bool} → Together net l w h ix r x → x ≡ true
+    → runSound (netCircuit net) (tableOf (columns l w h) (r .used)) (runOf (netCircuit net) r) ≡ true
+together-sound {net} {l} {w} {h} {ix} {r} t e =
+    and-right (columnsSound (netCircuit net .letters) (columns l w h) (r .used)) (runSound (netCircuit net) (tableOf (columns l w h) (r .used)) (runOf (netCircuit net) r)) (sym (t .is) ∙ e)
+
+-- the calls on a cell that is answered, with columns of legal lengths
+module _ (net l w h : List ℕ) (r : Run) (working : Columns) (legal : lengthsLegal (columns l w h) ≡ true) (wide : workingLegal working ≡ true) where
+  abbrev c : Circuit
+  c = netCircuit net
+
+  abbrev given : Moment
+  given = momentGiven (columns l w h) (runOf c r)
+
+  module _ {ix : List ℕ} {used : ℕ} {x : Bool} (j : Judged (at net lettersPlace) l w h used ix x) where
+    pub start-unsound : x ≡ false → taskCall (answered (netCircuit net)) (Start used) (columns l w h) r working ≡ refused Unsound
+    unfolding startCall
+    start-unsound e = rw (legal, wide, letters-at net, ← j .is, e)
+
+    pub start-next : x ≡ true → taskCall (answered (netCircuit net)) (Start used) (columns l w h) r working ≡ fitting (length l) (startMoment (netCircuit net) (tableOf (columns l w h) used))
+    unfolding startCall
+    start-next e = rw (legal, wide, letters-at net, ← j .is, e)
+
+  module _ {ix : List ℕ} {x : Bool} (t : Together net l w h ix r x) where
+    pub step-unsound : x ≡ false → taskCall (answered (netCircuit net)) Step (columns l w h) r working ≡ refused Unsound
+    unfolding stepCall
+    step-unsound e = rw (legal, wide, ← t .is, e)
+
+    step-sound : x ≡ true → taskCall (answered (netCircuit net)) Step (columns l w h) r working
+        ≡ check (ltb (timeAfter c given) never) Finished (fitting (length l) (stepMoment c given))
+    unfolding stepCall
+    step-sound e = rw (legal, wide, ← t .is, e)
+
+    pub step-finished : x ≡ true → timeAfter (netCircuit net) (momentGiven (columns l w h) (runOf (netCircuit net) r)) ≡ never
+        → taskCall (answered (netCircuit net)) Step (columns l w h) r working ≡ refused Finished
+    step-finished e z = step-sound e ∙ rw (le-ltb (timeAfter c given) never (omega arith))
+
+    pub step-next : x ≡ true → (timeAfter (netCircuit net) (momentGiven (columns l w h) (runOf (netCircuit net) r)) ≡ never → ⊥)
+        → taskCall (answered (netCircuit net)) Step (columns l w h) r working ≡ fitting (length l) (stepMoment (netCircuit net) (momentGiven (columns l w h) (runOf (netCircuit net) r)))
+    step-next e z = step-sound e ∙ rw (lt-ltb (timeAfter c given) never (omega (arith, time-never c given)))
+
+    pub run-unsound : (until : ℕ) → x ≡ false → taskCall (answered (netCircuit net)) (Until until) (columns l w h) r working ≡ refused Unsound
+    unfolding runCall
+    run-unsound until e = rw (legal, wide, ← t .is, e)
+
+    pub run-next : (until : ℕ) → x ≡ true → taskCall (answered (netCircuit net)) (Until until) (columns l w h) r working
+        ≡ runMoment (netCircuit net .horizon .0) (netCircuit net) until (length l) (momentGiven (columns l w h) (runOf (netCircuit net) r))
+    unfolding runCall
+    run-next until e = rw (legal, wide, ← t .is, e)

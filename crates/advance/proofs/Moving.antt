@@ -1,0 +1,221 @@
+-- A run of steps: what is kept from one to the next.
+use mathlib.Core.Path.{_≡_, refl, sym, _∙_, ap, subst}
+use mathlib.Core.Logic.{inl, inr, ⊎-elim}
+use mathlib.Core.List.{List}
+use mathlib.Core.Bool.{Bool, true, false, not, _&&_}
+use Prim.Native.Nat.{ℕ, _<_, _≤_}
+use native.Mathlib.Omega.{arith}
+use lib.ListN.{length}
+use lib.Dec.{leb, eqb}
+use borrow.Author.Tests.{ltb-true, ltb-false, leb-true, leb-false, eqb-false, ne-eqb, not-true}
+use Rattle.refusal.specs.Answer.{Answer}
+use Rattle.lists.proofs.Cases.{eq-or-ne, and-left, and-right, true-false}
+use Rattle.format.specs.Circuit.{Circuit}
+use Rattle.diagram.specs.Table.{never}
+use Rattle.diagram.specs.Call.{tableOf}
+use Rattle.diagram.proofs.Sound.{Sound}
+use Rattle.diagram.proofs.Add.{Extends, extends-refl, extends-trans}
+use Rattle.rules.specs.Run as defined
+use Rattle.rules.specs.Run.{Moment, timeAfter, stepMoment, fitting, continued, runSound}
+use Rattle.rules.specs.Call.{momentGiven}
+use Rattle.rules.proofs.Moment.{RunSound, SoundMoment, run-record, sound-tests, tests-sound, time-never, time-within, step-time, step-sound, step-extends}
+use Rattle.rules.proofs.RunSteps.{Rests, Takes, ran, fitting-fits, fitting-full, run-rests, run-next}
+use Rattle.table.specs.Holds.{columns, Sized}
+use Rattle.table.proofs.Outcomes.{holds-table, holds-kept, kept-extends}
+use Rattle.functions.specs.Open.{Open}
+use Rattle.functions.proofs.Carry.{open-next}
+use Rattle.net.specs.Net.{lettersPlace, horizonPlace, at, netCircuit}
+use Rattle.net.specs.Laid.{Laid}
+use Rattle.record.specs.declared.Run.{Run}
+use Rattle.record.specs.Record.{runOf, recordOf}
+use Rattle.record.proofs.Record.{run-of-record}
+use Rattle.step.specs.Next.{NextAs}
+use Rattle.advance.specs.Reached.{Reached}
+use Rattle.advance.proofs.Ends.{letters-at}
+
+-- the moment that columns and a run hold
+abbrev pub momentIn : List ℕ → List ℕ → List ℕ → List ℕ → Run → Moment
+momentIn net l w h r = momentGiven (columns l w h) (runOf (netCircuit net) r)
+
+-- what is required of a moment, to step from it
+pub record Standing (net l w h ix : List ℕ) (r : Run) : Type 0 where
+  pub opened : Open (at net lettersPlace) l w h ix (r .used)
+  pub sound : runSound (netCircuit net) (tableOf (columns l w h) (r .used)) (runOf (netCircuit net) r) ≡ true
+
+-- the steps up to now: what is left to run from here is what was asked at first, and no entry was taken away
+pub record Going (net : List ℕ) (until : ℕ) (l₀ w₀ h₀ : List ℕ) (r₀ : Run) (l w h ix : List ℕ) (r : Run) (time : ℕ) : Type 0 where
+  pub long : length l ≡ length l₀
+  pub standing : Standing net l w h ix r
+  pub whole : r ≡ recordOf (runOf (netCircuit net) r)
+  pub time-is : time ≡ timeAfter (netCircuit net) (momentGiven (columns l w h) (runOf (netCircuit net) r))
+  pub kept : Extends (tableOf (columns l₀ w₀ h₀) (r₀ .used)) (tableOf (columns l w h) (r .used))
+  pub left : ran (netCircuit net) until (length l₀) (momentGiven (columns l₀ w₀ h₀) (runOf (netCircuit net) r₀))
+      ≡ ran (netCircuit net) until (length l₀) (momentGiven (columns l w h) (runOf (netCircuit net) r))
+
+-- the horizon of the cell stands at its place
+pub horizon-at : (net : List ℕ) → netCircuit net .horizon .0 ≡ at net horizonPlace
+unfolding netCircuit
+horizon-at net = refl
+
+-- working of the same lengths is as good
+pub sized-same : {l w h ix l′ w′ h′ ix′ : List ℕ} → Sized l w h ix → length l′ ≡ length l → length w′ ≡ length w → length h′ ≡ length h → length ix′ ≡ length ix → Sized l′ w′ h′ ix′
+sized-same {ix = ix} {ix′ = ix′} s a b c d = record {
+  least = omega (arith, s .least);
+  most = omega (arith, s .most);
+  low-long = omega (arith, s .low-long);
+  high-long = omega (arith, s .high-long);
+  even = rw d (s .even);
+  room = rw d (omega (arith, s .room));
+}
+
+-- such a moment is sound
+pub standing-sound : {net l w h ix : List ℕ} {r : Run} → Standing net l w h ix r → SoundMoment (netCircuit net) (momentGiven (columns l w h) (runOf (netCircuit net) r))
+standing-sound {net} s = tests-sound (rw (letters-at net) (s .opened .legible .sound)) (s .sound) (s .opened .holds .long)
+
+-- zeros past the node records make no other run
+module _ {net l w h ix : List ℕ} {r r′ : Run} (s : Standing net l w h ix r) (e : r′ ≡ recordOf (runOf (netCircuit net) r)) where
+  tidy-used : r′ .used ≡ r .used
+  tidy-used = ap (λ (x : Run). x .used) e
+
+  tidy-run : runOf (netCircuit net) r′ ≡ runOf (netCircuit net) r
+  tidy-run =
+      let k : RunSound (netCircuit net) (tableOf (columns l w h) (r .used)) (runOf (netCircuit net) r) =
+      run-record (netCircuit net) (tableOf (columns l w h) (r .used)) (runOf (netCircuit net) r) (s .sound) in
+      ap (runOf (netCircuit net)) e ∙ run-of-record (netCircuit net) (runOf (netCircuit net) r) (k .values-long) (k .changes-long)
+
+  pub tidy-standing : Standing net l w h ix r′
+  tidy-standing = record { opened = rw tidy-used (s .opened); sound = subst (λ (x : defined.Run). runSound (netCircuit net) (tableOf (columns l w h) (x .used)) x ≡ true) (sym tidy-run) (s .sound) }
+
+  -- so nothing is asked but what was
+  pub tidy-reached : (until size : ℕ) {l1 w1 h1 ix1 : List ℕ} {full : Bool} {next : Run}
+      → Reached (tableOf (columns l w h) (r′ .used)) (ran (netCircuit net) until size (momentGiven (columns l w h) (runOf (netCircuit net) r′))) l1 w1 h1 ix1 full next
+      → Reached (tableOf (columns l w h) (r .used)) (ran (netCircuit net) until size (momentGiven (columns l w h) (runOf (netCircuit net) r))) l1 w1 h1 ix1 full next
+  tidy-reached until size {l1} {w1} {h1} {ix1} {full} {next} x =
+      subst
+      (λ (y : defined.Run).
+      Reached (tableOf (columns l w h) (y .used)) (ran (netCircuit net) until size (momentGiven (columns l w h) y)) l1 w1 h1 ix1 full next)
+      tidy-run
+      x
+
+  pub tidy-whole : r′ ≡ recordOf (runOf (netCircuit net) r′)
+  tidy-whole = e ∙ ap recordOf (sym tidy-run)
+
+-- no step yet
+pub going-start : {net l w h ix : List ℕ} {r : Run} {time : ℕ} (until : ℕ) → Standing net l w h ix r → r ≡ recordOf (runOf (netCircuit net) r)
+    → time ≡ timeAfter (netCircuit net) (momentGiven (columns l w h) (runOf (netCircuit net) r)) → Going net until l w h r l w h ix r time
+going-start {net} {l} {w} {h} {ix} {r} until s e t = record {
+  long = refl;
+  standing = s;
+  whole = e;
+  time-is = t;
+  kept = extends-refl (tableOf (columns l w h) (r .used));
+  left = refl;
+}
+
+-- a step from such a moment leaves one
+module _ {net l w h ix l′ w′ h′ ix′ : List ℕ} {r r′ : Run} {full : Bool} (laid : Laid (netCircuit net) net) (s : Standing net l w h ix r)
+    (n : NextAs (tableOf (columns l w h) (r .used)) (stepMoment (netCircuit net) (momentGiven (columns l w h) (runOf (netCircuit net) r))) l′ w′ h′ ix′ full r′)
+    (more : timeAfter (netCircuit net) (momentGiven (columns l w h) (runOf (netCircuit net) r)) < never) (room : full ≡ false) where
+  abbrev c : Circuit
+  c = netCircuit net
+
+  abbrev m : Moment
+  m = momentGiven (columns l w h) (runOf (netCircuit net) r)
+
+  stepped : SoundMoment (netCircuit net) (stepMoment (netCircuit net) (momentGiven (columns l w h) (runOf (netCircuit net) r)))
+  stepped = step-sound (laid .legal) (standing-sound s) more
+
+  run-same : runOf (netCircuit net) r′ ≡ stepMoment (netCircuit net) (momentGiven (columns l w h) (runOf (netCircuit net) r)) .run
+  run-same = ap (runOf c) (n .run-is room) ∙ run-of-record c (stepMoment c m .run) (stepped .run .values-long) (stepped .run .changes-long)
+
+  table-same : tableOf (columns l′ w′ h′) (r′ .used) ≡ stepMoment (netCircuit net) (momentGiven (columns l w h) (runOf (netCircuit net) r)) .table
+  table-same = holds-table (n .holds room)
+
+  -- the moment of the step is the one held
+  pub moment-same : momentGiven (columns l′ w′ h′) (runOf (netCircuit net) r′) ≡ stepMoment (netCircuit net) (momentGiven (columns l w h) (runOf (netCircuit net) r))
+  moment-same = λ i. record { run = run-same i; table = table-same i }
+
+  pub step-standing : Standing net l′ w′ h′ ix′ r′
+  step-standing = record {
+    opened = open-next (laid .within .letters) (subst (λ (k : ℕ). Sound k (stepMoment c m .table)) (letters-at net) (stepped .table)) (n .holds room);
+    sound = subst (λ (x : Moment). runSound c (x .table) (x .run) ≡ true) (sym moment-same) (sound-tests stepped .1);
+  }
+
+  -- it is later, and within the horizon
+  pub step-later : (r .time < r′ .time) × (r′ .time ≤ at net horizonPlace)
+  step-later =
+      let w : (r .time < timeAfter c m) × (timeAfter c m ≤ c .horizon .0) = time-within (laid .legal) (standing-sound s) more in
+      let t : r′ .time ≡ timeAfter c m = ap (λ (x : Run). x .time) (n .run-is room) ∙ step-time c m in
+      omega (arith, horizon-at net)
+
+-- the loop
+module _ {net : List ℕ} {until : ℕ} {l₀ w₀ h₀ : List ℕ} {r₀ : Run} {l w h ix : List ℕ} {r : Run} {time : ℕ} (laid : Laid (netCircuit net) net)
+    (g : Going net until l₀ w₀ h₀ r₀ l w h ix r time) where
+  -- the loop's test
+  pub going-takes : (not (eqb time never) && leb time until) ≡ true → Takes (netCircuit net) until (momentGiven (columns l w h) (runOf (netCircuit net) r))
+  going-takes e =
+      let t : time ≡ timeAfter (netCircuit net) (momentIn net l w h r) = g .time-is in
+      let some : time ≡ never → ⊥ = eqb-false time never (not-true (eqb time never) (and-left (not (eqb time never)) (leb time until) e)) in
+      let k : time ≤ until = leb-true time until (and-right (not (eqb time never)) (leb time until) e) in
+      record { more = omega (arith, time-never (netCircuit net) (momentIn net l w h r)); reach = omega arith }
+
+  going-left : (not (eqb time never) && leb time until) ≡ false → Rests (netCircuit net) until (momentGiven (columns l w h) (runOf (netCircuit net) r))
+  going-left e =
+      let t : time ≡ timeAfter (netCircuit net) (momentIn net l w h r) = g .time-is in
+      ⊎-elim
+      (λ (z : time ≡ never). inl (sym t ∙ z))
+      (λ (z : time ≡ never → ⊥). inr (let k : until < time = leb-false time until (rw (ne-eqb time never z) at e) in omega arith))
+      (eq-or-ne time never)
+
+  -- no step is left
+  pub going-rests : (not (eqb time never) && leb time until) ≡ false
+      → Reached (tableOf (columns l₀ w₀ h₀) (r₀ .used)) (ran (netCircuit net) until (length l₀) (momentGiven (columns l₀ w₀ h₀) (runOf (netCircuit net) r₀))) l w h ix false r
+  going-rests e = record {
+    over = λ z. true-false false z refl;
+    fits = λ _. record {
+      moment = momentIn net l w h r;
+      is = g .left ∙ run-rests (netCircuit net) until (length l₀) (netCircuit net .horizon .0) (momentIn net l w h r) (going-left e);
+      run-is = g .whole;
+      holds = g .standing .opened .holds;
+    };
+    kept = holds-kept (g .standing .opened .holds) (g .kept);
+  }
+
+  -- a step is left
+  module _ (takes : Takes (netCircuit net) until (momentGiven (columns l w h) (runOf (netCircuit net) r))) where
+    goes-on : ran (netCircuit net) until (length l₀) (momentGiven (columns l₀ w₀ h₀) (runOf (netCircuit net) r₀))
+        ≡ continued (fitting (length l₀) (stepMoment (netCircuit net) (momentGiven (columns l w h) (runOf (netCircuit net) r)))) (ran (netCircuit net) until (length l₀))
+    goes-on = g .left ∙ run-next (laid .legal) until (length l₀) (standing-sound (g .standing)) takes
+
+    module _ {l′ w′ h′ ix′ : List ℕ} {r′ : Run} {full : Bool} (long : length l′ ≡ length l)
+        (n : NextAs (tableOf (columns l w h) (r .used)) (stepMoment (netCircuit net) (momentGiven (columns l w h) (runOf (netCircuit net) r))) l′ w′ h′ ix′ full r′) where
+      abbrev after : Moment
+      after = stepMoment (netCircuit net) (momentGiven (columns l w h) (runOf (netCircuit net) r))
+
+      -- that has no room
+      pub going-full : full ≡ true
+          → Reached (tableOf (columns l₀ w₀ h₀) (r₀ .used)) (ran (netCircuit net) until (length l₀) (momentGiven (columns l₀ w₀ h₀) (runOf (netCircuit net) r₀))) l′ w′ h′ ix′ full r′
+      going-full e =
+          let o : length l′ < length (after .table) = ltb-true (length l′) (length (after .table)) (sym (n .full-is) ∙ e) in
+          record {
+            over = λ _. goes-on ∙ ap (λ (a : Answer Moment). continued a (ran (netCircuit net) until (length l₀))) (fitting-full (length l₀) after (omega (arith, g .long)));
+            fits = λ z. true-false full e z;
+            kept = kept-extends (g .kept) (n .kept);
+          }
+
+      -- that has room
+      pub going-next : full ≡ false → (time′ : ℕ) → time′ ≡ timeAfter (netCircuit net) (momentGiven (columns l′ w′ h′) (runOf (netCircuit net) r′))
+          → Going net until l₀ w₀ h₀ r₀ l′ w′ h′ ix′ r′ time′
+      going-next e time′ t =
+          let o : length (after .table) ≤ length l′ = ltb-false (length l′) (length (after .table)) (sym (n .full-is) ∙ e) in
+          let same : momentIn net l′ w′ h′ r′ ≡ after = moment-same laid (g .standing) n (takes .more) e in
+          record {
+            long = long ∙ g .long;
+            standing = step-standing laid (g .standing) n (takes .more) e;
+            whole = n .run-is e ∙ ap (λ (x : Moment). recordOf (x .run)) (sym same);
+            time-is = t;
+            kept = extends-trans (g .kept) (subst (Extends (tableOf (columns l w h) (r .used))) (ap (λ (x : Moment). x .table) (sym same)) (step-extends (laid .legal) (standing-sound (g .standing))));
+            left = goes-on
+                ∙ ap (λ (a : Answer Moment). continued a (ran (netCircuit net) until (length l₀))) (fitting-fits (length l₀) after (omega (arith, g .long)))
+                ∙ ap (ran (netCircuit net) until (length l₀)) (sym same);
+          }

@@ -1,0 +1,38 @@
+-- `closed` meets its contract: where there was no room the columns are cleared, else all is left. Assumes nothing.
+use borrow.Author.Needs.{needs}
+use Rattle.advance.proofs.Ends.{closed-full, closed-done}
+use Rattle.advance.proofs.close.closed.Statement.{statement}
+use Rattle.advance.proofs.close.closed.Tie as tie
+
+clear-requires : tie.Need-clear-requires
+clear-requires c κs = search needs
+
+refused-requires : tie.Need-refused-requires
+refused-requires c κs = search needs
+
+same-length : tie.Need-same-length
+same-length c = search needs
+
+same-length-2 : tie.Need-same-length-2
+same-length-2 c = search needs
+
+same-length-3 : tie.Need-same-length-3
+same-length-3 c = search needs
+
+returns : tie.Need-returns
+returns c = closed-full (c .before .before .before .before .before .before .before .before .before .before .before .if1 .taken) (c .before .before .before .before .before .before .before .clear .ensures) (c .refused .ensures)
+
+returns-2 : tie.Need-returns-2
+returns-2 c = closed-done (c .before .if1 .left)
+
+pub closed-spec : {M : Type 1} → statement M
+closed-spec =
+    tie.close
+    (tie.spec
+    clear-requires
+    refused-requires
+    same-length
+    same-length-2
+    same-length-3
+    returns
+    returns-2)

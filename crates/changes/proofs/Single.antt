@@ -1,0 +1,24 @@
+-- One node: an input has no next change, an inner node has its own.
+use mathlib.Core.Path.{_≡_, refl, sym}
+use mathlib.Core.List.{List}
+use mathlib.Core.Bool.{Bool, true, false, cond, true≢false}
+use Prim.Native.Nat.{ℕ}
+use Rattle.diagram.specs.Table.{Table, never}
+use Rattle.diagram.specs.Store.{store}
+use Rattle.diagram.specs.Call.{tableOf}
+use Rattle.table.specs.declared.Put.{Put}
+use Rattle.table.specs.Holds.{columns, Outcome}
+use Rattle.table.proofs.Outcomes.{put}
+use Rattle.functions.specs.Open.{Open}
+use Rattle.rules.specs.Run.{neverEntry}
+use Rattle.values.proofs.Single.{never-outcome}
+
+pub outer-put : {k : ℕ} {l w h ix : List ℕ} {used : ℕ} → Open k l w h ix used → (inner : Bool) (f : ℕ → ℕ) → inner ≡ false
+    → Outcome (tableOf (columns l w h) used) (store k 0 (λ p. cond inner (f p) never) (tableOf (columns l w h) used)) l w h ix (put false neverEntry used)
+outer-put o true f e = absurd (true≢false e)
+outer-put o false f e = never-outcome o (λ _. never) (λ p _. refl)
+
+pub inner-put : (k : ℕ) {t : Table} {l w h ix : List ℕ} {r : Put} (inner : Bool) (f : ℕ → ℕ) → inner ≡ true → Outcome t (store k 0 f t) l w h ix r
+    → Outcome t (store k 0 (λ p. cond inner (f p) never) t) l w h ix r
+inner-put k true f e o = o
+inner-put k false f e o = absurd (true≢false (sym e))

@@ -1,0 +1,147 @@
+-- A start and a step of the cell that a flat column lays out: what their calls require, and what they leave.
+use mathlib.Core.Path.{_≡_, refl, sym, ap, subst}
+use mathlib.Core.List.{List, map}
+use mathlib.Core.Bool.{Bool, true, false}
+use Prim.Native.Nat.{ℕ, _≤_, _<_}
+use native.Mathlib.Omega.{arith}
+use lib.ListN.{length, replicate}
+use Rattle.format.specs.Circuit.{Circuit}
+use Rattle.diagram.specs.Pattern.{mostLetters, patterns}
+use Rattle.diagram.specs.Table.{Table}
+use Rattle.diagram.specs.Call.{tableOf}
+use Rattle.diagram.proofs.Sound.{Sound}
+use Rattle.table.specs.Holds.{columns}
+use Rattle.functions.specs.Open.{Open}
+use Rattle.functions.proofs.Carry.{legible-sound}
+use Rattle.rules.specs.State.{valueAt, changeAt, nodeNumbers}
+use Rattle.rules.specs.Step.{stepped, started}
+use Rattle.rules.specs.Run.{stateOf, storeAll, momentOf, startMoment, timeAfter, stepMoment, runSound}
+use Rattle.rules.specs.Call.{momentGiven}
+use Rattle.rules.proofs.State.{Numbered}
+use Rattle.rules.proofs.Moment.{RunSound, run-record, legal-few, storedValues}
+use Rattle.net.specs.Net.{nodesPlace, lettersPlace, at, netCircuit}
+use Rattle.net.specs.Laid.{Laid}
+use Rattle.record.specs.declared.Run.{Run}
+use Rattle.record.specs.Record.{runOf}
+use Rattle.record.proofs.Net.{nodes-count}
+use Rattle.values.specs.All.{OutcomeAll}
+use Rattle.changes.specs.Changes.{changeOf, ValueEntries, PendingEntries}
+use Rattle.step.specs.ByNode.{ByNode, Gathers}
+use Rattle.step.specs.Next.{NextAs}
+use Rattle.step.proofs.Moments.{values-over, mid-open, mid-next}
+use Rattle.step.proofs.Entries.{after, step-entries, step-functions, start-entries, start-functions}
+
+-- the letters of the cell
+letters-are : (net : List ℕ) → netCircuit net .letters ≡ at net lettersPlace
+unfolding netCircuit
+letters-are net = refl
+
+-- as many node records as the column counts
+by-count : (net : List ℕ) {ground supply : ℕ} {entries out : List ℕ} → ByNode ground supply entries (at net nodesPlace) out → ByNode ground supply entries (length (netCircuit net .nodes)) out
+by-count net b = rw (nodes-count net) b
+
+module _ {net l w h ix : List ℕ} {old : ℕ} (k : Laid (netCircuit net) net) (io : Open (at net lettersPlace) l w h ix old) where
+  abbrev c : Circuit
+  c = netCircuit net
+
+  abbrev t : Table
+  t = tableOf (columns l w h) old
+
+  few : c .letters ≤ mostLetters
+  few = legal-few (k .legal)
+
+  -- the node records are few
+  pub nodes-few : at net nodesPlace ≤ 24
+  nodes-few = k .within .nodes
+
+  nodes : length (c .nodes) ≤ 24
+  nodes = omega (arith, nodes-count net, nodes-few)
+
+  sound : Sound (c .letters) t
+  sound = subst (λ (m : ℕ). Sound m t) (sym (letters-are net)) (legible-sound (io .legible))
+
+  -- a start whose values are stored
+  module _ {l₁ w₁ h₁ ix₁ : List ℕ} {full : Bool} {used : ℕ} {entries : List ℕ}
+      (o : OutcomeAll (tableOf (columns l w h) old) (storeAll (at net lettersPlace) (map (λ (n : ℕ) (p : ℕ). valueAt (started (netCircuit net) p) n) (nodeNumbers (netCircuit net))) (tableOf (columns l w h) old)) l₁ w₁ h₁ ix₁ full used entries) where
+    firsts : OutcomeAll t (storedValues c (started c) t) l₁ w₁ h₁ ix₁ full used entries
+    firsts =
+        subst
+        (λ (m : ℕ). OutcomeAll t (storeAll m (map (λ (n : ℕ) (p : ℕ). valueAt (started c p) n) (nodeNumbers c)) t) l₁ w₁ h₁ ix₁ full used entries)
+        (sym (letters-are net)) o
+
+    -- without room
+    pub start-over : full ≡ true → {none : Bool} (r : Run) → none ≡ true → NextAs (tableOf (columns l w h) old) (startMoment (netCircuit net) (tableOf (columns l w h) old)) l₁ w₁ h₁ ix₁ none r
+    unfolding startMoment
+    start-over e r q = values-over c 0 (started c) t few sound firsts e r q
+
+    module _ (fits : full ≡ false) {oa : List ℕ} (a : ByNode 0 1 entries (at net nodesPlace) oa) where
+      pub start-open : Open (at net lettersPlace) l₁ w₁ h₁ ix₁ used
+      start-open = subst (λ (m : ℕ). Open m l₁ w₁ h₁ ix₁ used) (letters-are net) (mid-open c 0 (started c) t few sound firsts fits)
+
+      pub start-requires : ValueEntries (at net lettersPlace) (tableOf (columns l₁ w₁ h₁) used) used oa × ValueEntries (at net lettersPlace) (tableOf (columns l₁ w₁ h₁) used) used oa × PendingEntries used (replicate 26 2)
+      start-requires =
+          let u : Table = tableOf (columns l₁ w₁ h₁) used in
+          subst (λ (m : ℕ). ValueEntries m u used oa × ValueEntries m u used oa × PendingEntries used (replicate 26 2)) (letters-are net) (start-entries c nodes few t sound firsts fits (by-count net a))
+
+      -- and its next changes
+      pub start-next : {l₂ w₂ h₂ ix₂ : List ℕ} {full₂ : Bool} {used₂ : ℕ} {entries₂ : List ℕ} {none : Bool} {r : Run}
+          → OutcomeAll (tableOf (columns l₁ w₁ h₁) used) (storeAll (at net lettersPlace) (map (changeOf (netCircuit net) 0 true (at net lettersPlace) (tableOf (columns l₁ w₁ h₁) used) oa oa (replicate 26 2)) (nodeNumbers (netCircuit net))) (tableOf (columns l₁ w₁ h₁) used)) l₂ w₂ h₂ ix₂ full₂ used₂ entries₂
+          → Gathers 0 entries full₂ used₂ entries₂ none r
+          → NextAs (tableOf (columns l w h) old) (startMoment (netCircuit net) (tableOf (columns l w h) old)) l₂ w₂ h₂ ix₂ none r
+      unfolding startMoment
+      start-next {l₂} {w₂} {h₂} {ix₂} {full₂} {used₂} {entries₂} o₂ g =
+          let u : Table = tableOf (columns l₁ w₁ h₁) used in
+          mid-next c 0 (started c) t few sound firsts fits (start-functions c nodes few t sound firsts fits (by-count net a))
+          (subst (λ (m : ℕ). OutcomeAll u (storeAll m (map (changeOf c 0 true m u oa oa (replicate 26 2)) (nodeNumbers c)) u) l₂ w₂ h₂ ix₂ full₂ used₂ entries₂) (sym (letters-are net)) o₂) g
+
+-- a step whose values are stored
+module _ {net l w h ix : List ℕ} (r : Run) (k : Laid (netCircuit net) net) (io : Open (at net lettersPlace) l w h ix (r .used))
+    (rs : runSound (netCircuit net) (tableOf (columns l w h) (r .used)) (runOf (netCircuit net) r) ≡ true) {time : ℕ}
+    (te : time ≡ timeAfter (netCircuit net) (momentGiven (columns l w h) (runOf (netCircuit net) r))) where
+  abbrev d : Circuit
+  d = netCircuit net
+
+  abbrev v : Table
+  v = tableOf (columns l w h) (r .used)
+
+  facts : RunSound d v (runOf d r)
+  facts = run-record d v (runOf d r) rs
+
+  moment-is : momentOf d time (after d time v r) v ≡ stepMoment d (momentGiven (columns l w h) (runOf d r))
+  unfolding stepMoment
+  moment-is = ap (λ (z : ℕ). momentOf d z (after d z v r) v) te
+
+  module _ {l₁ w₁ h₁ ix₁ : List ℕ} {full : Bool} {used : ℕ} {entries : List ℕ}
+      (o : OutcomeAll (tableOf (columns l w h) (r .used)) (storeAll (at net lettersPlace) (map (λ (n : ℕ) (p : ℕ). valueAt (stepped (netCircuit net) time p (stateOf (netCircuit net) (tableOf (columns l w h) (r .used)) (runOf (netCircuit net) r) p)) n) (nodeNumbers (netCircuit net))) (tableOf (columns l w h) (r .used))) l₁ w₁ h₁ ix₁ full used entries) where
+    values : OutcomeAll v (storedValues d (after d time v r) v) l₁ w₁ h₁ ix₁ full used entries
+    values =
+        subst
+        (λ (m : ℕ). OutcomeAll v (storeAll m (map (λ (n : ℕ) (p : ℕ). valueAt (after d time v r p) n) (nodeNumbers d)) v) l₁ w₁ h₁ ix₁ full used entries)
+        (sym (letters-are net)) o
+
+    -- without room
+    pub step-over : full ≡ true → {none : Bool} (x : Run) → none ≡ true
+        → NextAs (tableOf (columns l w h) (r .used)) (stepMoment (netCircuit net) (momentGiven (columns l w h) (runOf (netCircuit net) r))) l₁ w₁ h₁ ix₁ none x
+    step-over e x q = rw moment-is at (values-over d time (after d time v r) v (few k io) (sound k io) values e x q)
+
+    module _ (fits : full ≡ false) {ob oa op : List ℕ} (b : ByNode 0 1 (r .values) (at net nodesPlace) ob) (a : ByNode 0 1 entries (at net nodesPlace) oa) (g : ByNode 2 2 (r .changes) (at net nodesPlace) op) where
+      pub step-open : Open (at net lettersPlace) l₁ w₁ h₁ ix₁ used
+      step-open = subst (λ (m : ℕ). Open m l₁ w₁ h₁ ix₁ used) (letters-are net) (mid-open d time (after d time v r) v (few k io) (sound k io) values fits)
+
+      pub step-requires : ValueEntries (at net lettersPlace) (tableOf (columns l₁ w₁ h₁) used) used ob × ValueEntries (at net lettersPlace) (tableOf (columns l₁ w₁ h₁) used) used oa × PendingEntries used op
+      step-requires =
+          let u : Table = tableOf (columns l₁ w₁ h₁) used in
+          subst (λ (m : ℕ). ValueEntries m u used ob × ValueEntries m u used oa × PendingEntries used op) (letters-are net)
+          (step-entries d (nodes k io) (few k io) v (sound k io) r facts time values fits (by-count net b) (by-count net a) (by-count net g))
+
+      -- and its next changes
+      pub step-next : {l₂ w₂ h₂ ix₂ : List ℕ} {full₂ : Bool} {used₂ : ℕ} {entries₂ : List ℕ} {none : Bool} {x : Run}
+          → OutcomeAll (tableOf (columns l₁ w₁ h₁) used) (storeAll (at net lettersPlace) (map (changeOf (netCircuit net) time false (at net lettersPlace) (tableOf (columns l₁ w₁ h₁) used) ob oa op) (nodeNumbers (netCircuit net))) (tableOf (columns l₁ w₁ h₁) used)) l₂ w₂ h₂ ix₂ full₂ used₂ entries₂
+          → Gathers time entries full₂ used₂ entries₂ none x
+          → NextAs (tableOf (columns l w h) (r .used)) (stepMoment (netCircuit net) (momentGiven (columns l w h) (runOf (netCircuit net) r))) l₂ w₂ h₂ ix₂ none x
+      step-next {l₂} {w₂} {h₂} {ix₂} {full₂} {used₂} {entries₂} o₂ q =
+          let u : Table = tableOf (columns l₁ w₁ h₁) used in
+          let same : (n : ℕ) → Numbered d n → (p : ℕ) → p < patterns (d .letters) → changeOf d time false (d .letters) (tableOf (columns l₁ w₁ h₁) used) ob oa op n p ≡ changeAt (after d time v r p) n =
+          step-functions d (nodes k io) (few k io) v (sound k io) r facts time values fits (by-count net b) (by-count net a) (by-count net g) in
+          rw moment-is at (mid-next d time (after d time v r) v (few k io) (sound k io) values fits same
+          (subst (λ (m : ℕ). OutcomeAll u (storeAll m (map (changeOf d time false m u ob oa op) (nodeNumbers d)) u) l₂ w₂ h₂ ix₂ full₂ used₂ entries₂) (sym (letters-are net)) o₂) q)
