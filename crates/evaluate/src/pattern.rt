@@ -9,17 +9,24 @@ use plain::touch::touched;
 use table::Put;
 use walk::change::next_change;
 ghost use mathlib.Core.Path.{_≡_};
+ghost use mathlib.Core.Bool.{_||_};
+ghost use Prim.Native.Nat.{ℕ};
 ghost use Rattle.diagram.specs.Store.{store};
 ghost use Rattle.diagram.specs.Call.{tableOf};
 ghost use Rattle.net.specs.Net.{lettersPlace, at as atPlace, netCircuit};
 ghost use Rattle.table.specs.Holds.{columns, Outcome};
 ghost use Rattle.functions.specs.Open.{Open};
 ghost use Rattle.descent.specs.Descend.{Inner};
-ghost use Rattle.attempt.specs.Change.{changeFrom, changeBy};
+ghost use Rattle.rules.specs.Group.{reconsidered};
+ghost use Rattle.attempt.specs.Change.{beforeState, afterState, changeFrom, changeBy};
 ghost use Rattle.attempt.specs.Entries.{Evaluable};
+ghost use Rattle.evaluate.specs.Numbers.{Numbers};
 
 // Whether node n is reconsidered.
-fn considered(net: &[u32], numbers: &[u32], all: bool, n: u32) -> bool {
+fn considered(net: &[u32], numbers: &[u32], all: bool, n: u32) -> bool
+    requires { ⌜ Inner (now net) n × Numbers (now numbers) ⌝ }
+    ensures { λ r. ⌜ ((time : ℕ) → r ≡ (all || reconsidered (netCircuit (now (net .entry))) (beforeState (netCircuit (now (net .entry))) (now (numbers .entry))) (afterState (netCircuit (now (net .entry))) time (now (numbers .entry))) n)) ⌝ }
+{
     if all {
         return true;
     }
@@ -27,7 +34,10 @@ fn considered(net: &[u32], numbers: &[u32], all: bool, n: u32) -> bool {
 }
 
 // The next change of node n by the numbers of one pattern.
-fn change(net: &[u32], numbers: &[u32], time: u32, all: bool, n: u32) -> u32 {
+fn change(net: &[u32], numbers: &[u32], time: u32, all: bool, n: u32) -> u32
+    requires { ⌜ Inner (now net) n × Numbers (now numbers) ⌝ }
+    ensures { λ r. ⌜ r ≡ changeFrom (netCircuit (now (net .entry))) time all n (now (numbers .entry)) ⌝ }
+{
     let pending = pending_after(time, numbers[PENDING]);
     if !considered(net, numbers, all, n) {
         return pending;
