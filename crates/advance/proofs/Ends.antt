@@ -30,7 +30,7 @@ use Rattle.net.specs.Net.{lettersPlace, at, netCircuit}
 use Rattle.net.specs.Laid.{Laid}
 use Rattle.record.specs.declared.Run.{Run}
 use Rattle.record.specs.Record.{runOf}
-use Rattle.step.specs.Next.{NextAs}
+use Rattle.moment.specs.Next.{NextAs}
 use Rattle.advance.specs.declared.Task.the-variants.{Start, Step, Until}
 use Rattle.advance.specs.Task.{taskCall}
 use Rattle.advance.specs.Went.{WentAs}

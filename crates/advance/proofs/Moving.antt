@@ -29,7 +29,7 @@ use Rattle.net.specs.Laid.{Laid}
 use Rattle.record.specs.declared.Run.{Run}
 use Rattle.record.specs.Record.{runOf, recordOf}
 use Rattle.record.proofs.Record.{run-of-record}
-use Rattle.step.specs.Next.{NextAs}
+use Rattle.moment.specs.Next.{NextAs}
 use Rattle.advance.specs.Reached.{Reached}
 use Rattle.advance.proofs.Ends.{letters-at}
 

@@ -3,7 +3,7 @@ use crate::Went;
 use record::Run;
 use refusal::Refusal;
 use refusal::Reply;
-use step::Next;
+use moment::Next;
 use table::clear;
 ghost use mathlib.Core.Path.{_≡_};
 ghost use Rattle.refusal.specs.declared.Reply.the-variants.{Refused};

@@ -1,9 +1,9 @@
 -- `start` meets its contract: the sources, then the next changes of all groups. Assumes nothing.
 use native.Mathlib.Omega.{arith}
 use borrow.Author.Needs.{needs}
-use Rattle.step.proofs.Whole.{start-over, nodes-few, start-open, start-requires, start-next}
-use Rattle.step.proofs.start.Statement.{statement}
-use Rattle.step.proofs.start.Tie as tie
+use Rattle.moment.proofs.Whole.{start-over, nodes-few, start-open, start-requires, start-next}
+use Rattle.moment.proofs.start.Statement.{statement}
+use Rattle.moment.proofs.start.Tie as tie
 
 sources-requires : tie.Need-sources-requires
 sources-requires c κs = (c .before .before .before .before .before .before .before .before .before .before .before .before .before .pre .0, c .before .before .before .before .before .before .before .before .before .before .before .before .before .pre .1)

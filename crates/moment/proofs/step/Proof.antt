@@ -1,9 +1,9 @@
 -- `step` meets its contract: all of T, then the next changes. Assumes nothing.
 use native.Mathlib.Omega.{arith}
 use borrow.Author.Needs.{needs}
-use Rattle.step.proofs.Whole.{step-over, nodes-few, step-open, step-requires, step-next}
-use Rattle.step.proofs.step.Statement.{statement}
-use Rattle.step.proofs.step.Tie as tie
+use Rattle.moment.proofs.Whole.{step-over, nodes-few, step-open, step-requires, step-next}
+use Rattle.moment.proofs.step.Statement.{statement}
+use Rattle.moment.proofs.step.Tie as tie
 
 arrive-requires : tie.Need-arrive-requires
 arrive-requires c κs = ((c .before .before .before .before .before .before .before .before .before .before .before .before .before .pre .0 .0, c .before .before .before .before .before .before .before .before .before .before .before .before .before .pre .0 .1), c .before .before .before .before .before .before .before .before .before .before .before .before .before .pre .1 .0)

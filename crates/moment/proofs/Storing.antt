@@ -25,9 +25,9 @@ use Rattle.rules.proofs.Step.{input-not-reconsidered, started-change, startedCh
 use Rattle.rules.proofs.StoreAll.{noFunction, storeAll-ext}
 use Rattle.descent.specs.Settle.{leafAt}
 use Rattle.changes.specs.Changes.{entriesFor, changeOf, ValueEntries, PendingEntries}
-use Rattle.step.specs.ByNode.{ByNode}
-use Rattle.step.proofs.Alike.{Shown, shown-step, shown-start}
-use Rattle.step.proofs.Places.{number-before, number-after, number-pending}
+use Rattle.moment.specs.ByNode.{ByNode}
+use Rattle.moment.proofs.Alike.{Shown, shown-step, shown-start}
+use Rattle.moment.proofs.Places.{number-before, number-after, number-pending}
 
 -- functions that agree at each node are stored alike
 pub stored-alike : (c : Circuit) (letters : ℕ) (f g : ℕ → ℕ → ℕ) (t : Table) → ((n : ℕ) → Numbered c n → (p : ℕ) → p < patterns letters → f n p ≡ g n p)

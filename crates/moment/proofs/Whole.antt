@@ -26,10 +26,10 @@ use Rattle.record.specs.Record.{runOf}
 use Rattle.record.proofs.Net.{nodes-count}
 use Rattle.values.specs.All.{OutcomeAll}
 use Rattle.changes.specs.Changes.{changeOf, ValueEntries, PendingEntries}
-use Rattle.step.specs.ByNode.{ByNode, Gathers}
-use Rattle.step.specs.Next.{NextAs}
-use Rattle.step.proofs.Moments.{values-over, mid-open, mid-next}
-use Rattle.step.proofs.Entries.{after, step-entries, step-functions, start-entries, start-functions}
+use Rattle.moment.specs.ByNode.{ByNode, Gathers}
+use Rattle.moment.specs.Next.{NextAs}
+use Rattle.moment.proofs.Moments.{values-over, mid-open, mid-next}
+use Rattle.moment.proofs.Entries.{after, step-entries, step-functions, start-entries, start-functions}
 
 -- the letters of the cell
 letters-are : (net : List ℕ) → netCircuit net .letters ≡ at net lettersPlace

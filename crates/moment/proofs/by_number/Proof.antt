@@ -2,9 +2,9 @@
 use native.Mathlib.Omega.{arith}
 use borrow.Author.Needs.{needs}
 use Prim.Native.Nat.{_-_}
-use Rattle.step.proofs.Places.{Placing, placing-first, placing-next, placing-done}
-use Rattle.step.proofs.by_number.Statement.{statement}
-use Rattle.step.proofs.by_number.Tie as tie
+use Rattle.moment.proofs.Places.{Placing, placing-first, placing-next, placing-done}
+use Rattle.moment.proofs.by_number.Statement.{statement}
+use Rattle.moment.proofs.by_number.Tie as tie
 
 abbrev Inv-loop : tie.InvT-loop
 Inv-loop ground supply count entries out₀ i₀ out i = Placing ground supply entries count i out

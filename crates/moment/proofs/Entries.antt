@@ -26,9 +26,9 @@ use Rattle.record.specs.declared.Run.{Run}
 use Rattle.record.specs.Record.{runOf}
 use Rattle.values.specs.All.{OutcomeAll}
 use Rattle.changes.specs.Changes.{changeOf, ValueEntries, PendingEntries}
-use Rattle.step.specs.ByNode.{ByNode}
-use Rattle.step.proofs.Storing.{Numbering, placed-numbering, values-placed, changes-placed, step-change, start-change}
-use Rattle.step.proofs.Moments.{mid-sound, mid-extends, mid-long, mid-within, mid-number}
+use Rattle.moment.specs.ByNode.{ByNode}
+use Rattle.moment.proofs.Storing.{Numbering, placed-numbering, values-placed, changes-placed, step-change, start-change}
+use Rattle.moment.proofs.Moments.{mid-sound, mid-extends, mid-long, mid-within, mid-number}
 
 -- the entries of a sound run in an extension of its table
 module _ (c : Circuit) (few : c .letters ≤ mostLetters) (t : Table) (s : Sound (c .letters) t) (r : Run) (rs : RunSound c t (runOf c r)) (u : Table) (x : Extends t u) where

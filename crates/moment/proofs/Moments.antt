@@ -30,9 +30,9 @@ use Rattle.rules.proofs.Moment.{eachNode, storedValues}
 use Rattle.record.specs.declared.Run.{Run}
 use Rattle.record.specs.Record.{recordOf}
 use Rattle.values.specs.All.{OutcomeAll}
-use Rattle.step.specs.ByNode.{Gathers}
-use Rattle.step.specs.Next.{NextAs}
-use Rattle.step.proofs.Storing.{stored-alike}
+use Rattle.moment.specs.ByNode.{Gathers}
+use Rattle.moment.specs.Next.{NextAs}
+use Rattle.moment.proofs.Storing.{stored-alike}
 
 -- no room for the next changes
 pub gathers-none : {time : ℕ} {values : List ℕ} {full : Bool} {used : ℕ} {changes : List ℕ} {none : Bool} {r : Run} → none ≡ true → full ≡ true

@@ -17,8 +17,8 @@ ghost use Rattle.rules.specs.Call.{momentGiven};
 ghost use Rattle.record.specs.Record.{runOf};
 ghost use Rattle.net.specs.Net.{lettersPlace, at as atPlace, netCircuit};
 ghost use Rattle.net.specs.Laid.{Laid};
-ghost use Rattle.step.specs.ByNode.{ByNode, Gathers};
-ghost use Rattle.step.specs.Next.{NextAs};
+ghost use Rattle.moment.specs.ByNode.{ByNode, Gathers};
+ghost use Rattle.moment.specs.Next.{NextAs};
 
 // The run after a start or a step, unless there was no room.
 pub struct Next {

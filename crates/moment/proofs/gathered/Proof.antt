@@ -1,8 +1,8 @@
 -- `gathered` meets its contract. Assumes nothing.
 use borrow.Author.Needs.{needs}
-use Rattle.step.proofs.Moments.{gathers-none}
-use Rattle.step.proofs.gathered.Statement.{statement}
-use Rattle.step.proofs.gathered.Tie as tie
+use Rattle.moment.proofs.Moments.{gathers-none}
+use Rattle.moment.proofs.gathered.Statement.{statement}
+use Rattle.moment.proofs.gathered.Tie as tie
 
 no-room-requires : tie.Need-no-room-requires
 no-room-requires c κs = search needs

@@ -12,7 +12,7 @@ use Rattle.format.proofs.Every.{map-at}
 use Rattle.diagram.specs.Table.{Table, numberAt}
 use Rattle.descent.specs.Settle.{leafAt}
 use Rattle.changes.specs.Changes.{entriesFor}
-use Rattle.step.specs.ByNode.{ByNode}
+use Rattle.moment.specs.ByNode.{ByNode}
 
 -- the rails' entries alone
 pub rails-placed : (ground supply : ℕ) (entries : List ℕ) → ByNode ground supply entries 0 (set (set (replicate 26 0) 0 ground) 1 supply)
