@@ -1,9 +1,9 @@
 // The end of a task.
 use crate::Went;
+use moment::Next;
 use record::Run;
 use refusal::Refusal;
 use refusal::Reply;
-use moment::Next;
 use table::clear;
 ghost use mathlib.Core.Path.{_≡_};
 ghost use Rattle.refusal.specs.declared.Reply.the-variants.{Refused};

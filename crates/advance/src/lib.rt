@@ -6,13 +6,13 @@ mod steps;
 
 use close::closed;
 use close::refused;
+use moment::start;
+use moment::step;
 use record::Run;
 use record::run_sound;
 use record::time_after;
 use refusal::Refusal;
 use refusal::Reply;
-use moment::start;
-use moment::step;
 use steps::steps;
 use table::sound;
 ghost use mathlib.Core.Path.{_≡_};

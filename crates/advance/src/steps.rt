@@ -1,8 +1,8 @@
 // Every step not later than a time.
-use record::Run;
-use record::time_after;
 use moment::Next;
 use moment::step;
+use record::Run;
+use record::time_after;
 ghost use mathlib.Core.Path.{_≡_};
 ghost use mathlib.Core.Bool.{true};
 ghost use Prim.Native.Nat.{_≤_};
