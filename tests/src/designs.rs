@@ -19,32 +19,26 @@ const BEGIN: u32 = 2_000;
 const CYCLE: u32 = 8_000;
 const TURN: u32 = 4_000;
 
-/// An eight-bit Manchester carry chain of 24 nodes with at most 12 letters: the
-/// carry into it, eight propagate inputs and three generate inputs. The clock
-/// charges the nine nodes of the chain. It rises, and the inputs take their letters
-/// one after the other, `skew` ps apart; they fall in the same way, and then the
-/// clock does. A second cycle has the letters' complements.
-///
-/// The letters are numbered along the chain, as the wires lie: a node's function
-/// then reads its own letters and those before it in their order, and stays small.
-pub fn carry_chain(letters: u32, skew: u32) -> Cell {
-    let mut draft = Draft::new(letters, BEGIN + 2 * CYCLE);
+/// An eight-bit Manchester carry chain of 24 nodes: a clock that charges its nine
+/// nodes, the carry into it, eight propagate and three generate inputs, and two
+/// outputs. Gives the clock, and the other inputs along the chain.
+fn chain_of(draft: &mut Draft) -> (u8, Vec<u8>) {
     let clock = draft.input(Source::Low);
     let mut inputs = Vec::new();
     let mut input = |draft: &mut Draft| {
         inputs.push(draft.input(Source::Low));
         inputs[inputs.len() - 1]
     };
-    let carry_in = input(&mut draft);
+    let carry_in = input(draft);
     let mut chain = vec![draft.inner(30, Source::High)];
     draft.n(carry_in, [GROUND, chain[0]], 1_500);
     for bit in 0..8 {
-        let propagate = input(&mut draft);
+        let propagate = input(draft);
         let node = draft.inner(25 + bit, Source::High);
         let ends = [chain[chain.len() - 1], node];
         draft.n(propagate, ends, 1_000 + 10 * u32::from(bit));
         if [1, 3, 5].contains(&bit) {
-            let generate = input(&mut draft);
+            let generate = input(draft);
             draft.n(generate, [GROUND, node], 1_500);
         }
         chain.push(node);
@@ -56,16 +50,59 @@ pub fn carry_chain(letters: u32, skew: u32) -> Cell {
         let carry = draft.inner(20, Source::Low);
         draft.inverter(node, carry, 1_000);
     }
-    for (begin, complement) in [(BEGIN, false), (BEGIN + CYCLE, true)] {
+    (clock, inputs)
+}
+
+/// Two cycles of a chain: the clock rises, and the inputs take their sources one
+/// after the other, `skew` ps apart; they fall in the same way, and then the clock
+/// does.
+fn two_cycles(
+    mut draft: Draft,
+    clock: u8,
+    inputs: &[u8],
+    skew: u32,
+    source: impl Fn(u32, u32) -> Source,
+) -> Cell {
+    for cycle in 0..2 {
+        let begin = BEGIN + cycle * CYCLE;
         draft.at(begin, clock, Source::High);
-        for (number, &input) in (0..).zip(&inputs) {
+        for (number, &input) in (0..).zip(inputs) {
             let time = begin + skew * number;
-            draft.at(time, input, letter(number, letters, complement));
+            draft.at(time, input, source(cycle, number));
             draft.at(time + TURN, input, Source::Low);
         }
         draft.at(begin + TURN + 12 * skew, clock, Source::Low);
     }
     draft.finish()
+}
+
+/// A carry chain with at most 12 letters, all of them in each of its two cycles: the
+/// second has the letters' complements.
+///
+/// The letters are numbered along the chain, as the wires lie: a node's function
+/// then reads its own letters and those before it in their order, and stays small.
+pub fn carry_chain(letters: u32, skew: u32) -> Cell {
+    let mut draft = Draft::new(letters, BEGIN + 2 * CYCLE);
+    let (clock, inputs) = chain_of(&mut draft);
+    two_cycles(draft, clock, &inputs, skew, |cycle, number| {
+        letter(number, letters, cycle == 1)
+    })
+}
+
+/// A carry chain whose two cycles have operands of their own: in the first the first
+/// inputs along the chain carry `first` letters, in the second its last inputs
+/// `second` others; the inputs without a letter are high. What the first cycle left
+/// in the chain is charged away before the second.
+pub fn carry_additions(first: u32, second: u32, skew: u32) -> Cell {
+    let letters = first + second;
+    let mut draft = Draft::new(letters, BEGIN + 2 * CYCLE);
+    let (clock, inputs) = chain_of(&mut draft);
+    let last = inputs.len() as u32 - second;
+    two_cycles(draft, clock, &inputs, skew, |cycle, number| match cycle {
+        0 if number < first => Source::Letter(number as u8),
+        1 if number >= last => Source::Letter((first + number - last) as u8),
+        _ => Source::High,
+    })
 }
 
 /// A column of a barrel shifter, of 24 nodes with at most 12 letters: three levels

@@ -154,6 +154,12 @@ fn main() {
         "walked ms",
         "ratio"
     );
+    for (first, second) in [(5, 3), (7, 3), (8, 4)] {
+        line(
+            "carry chain, two additions",
+            &designs::carry_additions(first, second, 30),
+        );
+    }
     for letters in [0, 8, 10, 12] {
         line(
             "carry chain, inputs 30 ps apart",
