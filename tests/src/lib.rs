@@ -17,7 +17,9 @@ pub mod replay;
 #[cfg(feature = "editor")]
 pub mod side_by_side;
 pub mod simulator;
+pub mod source;
 #[cfg(feature = "editor")]
 pub mod sts;
 pub mod tally;
+pub mod vectors;
 pub mod waves;

@@ -1,4 +1,4 @@
-//! What the program `waves` prints of a file.
+//! What the programs `waves` and `vectors` print.
 
 use crate::cell_file::{parse, Cell, FIRST_NODE};
 use crate::functions::{self, Call as Operate, Columns, Operation, FIRST};
@@ -6,27 +6,61 @@ use crate::listing::cell_line;
 use crate::refusal::Refusal;
 use crate::simulator::calls::{Call, Lent, RECORD, TIME, USED, VALUES};
 
-/// The length of the program's table and of its working table.
-const LENGTH: usize = 4_096;
+/// The length of the table of `waves`, and of both programs' working table.
+pub const LENGTH: usize = 4_096;
 
-/// The whole output for a file.
+/// All that `waves` prints of a file.
 pub fn of_file(file: &[u8]) -> String {
+    in_table(file, LENGTH)
+}
+
+/// The listing of a run in a table of this length.
+pub fn in_table(file: &[u8], length: usize) -> String {
     let mut text = String::new();
-    if let Err(refusal) = list(file, &mut text) {
+    if let Err(refusal) = list(file, length, &mut text) {
         text += &format!("{refusal}\n");
     }
     text
 }
 
+/// All that `vectors` prints for these arguments: table lengths, and names of files
+/// that `read` gives.
+pub fn of_names<'a>(
+    arguments: impl IntoIterator<Item = &'a str>,
+    read: impl Fn(&str) -> Option<Vec<u8>>,
+) -> String {
+    let mut length = LENGTH;
+    let mut text = String::new();
+    for argument in arguments {
+        match table_length(argument) {
+            Some(number) => length = number,
+            None => {
+                text += &format!("{argument} {length}\n");
+                text += &match read(argument) {
+                    Some(file) => in_table(&file, length),
+                    None => "no such file\n".to_owned(),
+                };
+            }
+        }
+    }
+    text
+}
+
+/// The table length that an argument tells, if it is digits alone and one.
+fn table_length(argument: &str) -> Option<usize> {
+    let digits = argument.bytes().all(|byte| byte.is_ascii_digit());
+    let number = argument.parse().ok().filter(|_| digits);
+    number.filter(|number| (1..=LENGTH).contains(number))
+}
+
 /// Lists the run until it is finished; a refusal breaks it off.
-fn list(file: &[u8], text: &mut String) -> Result<(), Refusal> {
+fn list(file: &[u8], length: usize, text: &mut String) -> Result<(), Refusal> {
     let cell = parse(file)?;
     *text += &cell_line(&cell);
-    let columns = || Columns::of(&[], LENGTH);
     let mut lent = Lent {
-        table: columns(),
+        table: Columns::of(&[], length),
         record: vec![0; RECORD],
-        working: columns(),
+        working: Columns::of(&[], LENGTH),
         answer: Vec::new(),
     };
     functions::fresh(&mut lent.table)?;

@@ -93,10 +93,7 @@ fn expect_cell(expected: u32, cell: &Cell) {
 fn the_inverter() {
     assert_eq!(parse(&INVERTER), Ok(inverter()));
     assert_eq!(Layout::in_order(&inverter()).file, INVERTER);
-    assert_eq!(
-        bytes(&in_repository("tests/vectors/inverter.cell")),
-        INVERTER
-    );
+    assert_eq!(bytes(&in_repository("cells/inverter.cell")), INVERTER);
     assert_eq!(inverter().header(), [2, 2, 1, 2, 1000]);
 }
 

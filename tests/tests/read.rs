@@ -8,6 +8,7 @@ use comparison::refusal::Refusal;
 use comparison::replay::{hex, Cases};
 use comparison::sts;
 use comparison::tally::Tally;
+use comparison::vectors::CELLS;
 
 /// How many numbers a header has.
 const HEADER: usize = 5;
@@ -91,7 +92,7 @@ fn a_million_files() {
 fn every_value_of_every_byte() {
     let mut random = Random::new(4);
     let mut tally = Tally::default();
-    for path in files("tests/vectors", "cell") {
+    for path in files(CELLS, "cell") {
         let mut file = bytes(&path);
         for at in 0..file.len() {
             let old = file[at];
@@ -118,7 +119,7 @@ fn every_value_of_every_byte() {
 fn every_length() {
     let mut random = Random::new(5);
     let mut tally = Tally::default();
-    for path in files("tests/vectors", "cell") {
+    for path in files(CELLS, "cell") {
         let whole = bytes(&path);
         for length in 0..=2 * whole.len() {
             let mut file = whole.clone();
@@ -156,7 +157,7 @@ fn long_files() {
 #[test]
 fn every_length_of_the_header() {
     let mut random = Random::new(7);
-    for path in files("tests/vectors", "cell") {
+    for path in files(CELLS, "cell") {
         let file = bytes(&path);
         for start in [&file[..], &file[..file.len() - 1], &file[..15], &[]] {
             for length in (0..=64).filter(|&length| length != HEADER) {

@@ -18,6 +18,7 @@ use comparison::simulator::circuit::Circuit;
 use comparison::simulator::trial::Trial;
 use comparison::sts;
 use comparison::tally::Tally;
+use comparison::vectors::CELLS;
 use std::collections::BTreeMap;
 use std::fmt;
 
@@ -578,7 +579,7 @@ fn drawn_cells() {
     let mut random = Random::new(33);
     let mut seen = Seen::default();
     let mut cells: Vec<(String, Cell)> = Vec::new();
-    for path in files("tests/vectors", "cell") {
+    for path in files(CELLS, "cell") {
         let cell = parse(&bytes(&path));
         cells.extend(cell.map(|cell| (path.display().to_string(), cell)));
     }

@@ -1,13 +1,10 @@
-//! The files that the repository keeps: `tests/vectors` and `cells`.
+//! The cells that the repository keeps: those of the program `vectors`, and `cells`.
 
 use comparison::cell_file::parse;
 use comparison::listing;
-use comparison::program::{self, bytes, files};
+use comparison::program;
 use comparison::sts;
-use std::path::Path;
-
-/// How many files `tests/vectors` has.
-const VECTORS: usize = 46;
+use comparison::vectors;
 
 /// The first line for a file: of the cell, or of its refusal.
 fn first_line(file: &[u8]) -> String {
@@ -27,58 +24,30 @@ fn first_line_read(file: &[u8]) -> String {
     }
 }
 
-/// The first line of the text that stands beside a cell.
-fn first_line_beside(path: &Path) -> String {
-    let path = path.with_extension("waves");
-    let text = String::from_utf8(bytes(&path));
-    let text = text.unwrap_or_else(|error| panic!("{}: {error}", path.display()));
-    text.lines().next().unwrap_or_default().to_owned()
-}
-
-/// Each file of the vectors is read, or refused, as its text says.
+/// Each file is read, or refused, as its listing says.
 #[test]
-fn vectors() {
-    let paths = files("tests/vectors", "cell");
-    assert_eq!(paths.len(), VECTORS, "cells in tests/vectors");
-    for path in paths {
-        let file = bytes(&path);
-        let expected = first_line_beside(&path);
+fn kept_cells() {
+    let kept = [vectors::given(), vectors::samples()].concat();
+    assert!(!kept.is_empty(), "no cell is kept");
+    for vector in kept {
+        let name = vector.path.display();
+        let expected = vector.listing.lines().next().unwrap_or_default();
+        assert_eq!(first_line(&vector.file), expected, "{name} by the model");
         assert_eq!(
-            first_line(&file),
+            first_line_read(&vector.file),
             expected,
-            "{} by the model",
-            path.display()
+            "{name} by sts_read"
         );
-        assert_eq!(
-            first_line_read(&file),
-            expected,
-            "{} by sts_read",
-            path.display()
-        );
-        let shown = program::run("show", &file);
-        assert_eq!(
-            shown,
-            Ok(listing::of_file(&file)),
-            "{} by show",
-            path.display()
-        );
+        let shown = program::run("show", &vector.file);
+        assert_eq!(shown, Ok(listing::of_file(&vector.file)), "{name} by show");
     }
 }
 
 /// The cells that are given as samples are legal.
 #[test]
 fn sample_cells() {
-    let paths = files("cells", "cell");
-    assert!(!paths.is_empty(), "no cell in cells");
-    for path in paths {
-        let file = bytes(&path);
-        assert!(parse(&file).is_ok(), "{} by the model", path.display());
-        let shown = program::run("show", &file);
-        assert_eq!(
-            shown,
-            Ok(listing::of_file(&file)),
-            "{} by show",
-            path.display()
-        );
+    for sample in vectors::samples() {
+        let name = sample.path.display();
+        assert!(parse(&sample.file).is_ok(), "{name} by the model");
     }
 }

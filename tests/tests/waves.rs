@@ -1,20 +1,30 @@
-//! The listings that stand beside the cells of `tests/vectors`, against those
-//! that the second implementation makes.
+//! The listings that are kept, against those that the second implementation makes.
 
-use comparison::program::{bytes, files};
+use comparison::vectors::{self, Vector};
 use comparison::waves;
 
-/// How many cells `tests/vectors` has.
-const VECTORS: usize = 46;
+/// How many listings `tests/vectors` has.
+const GIVEN: usize = 46;
 
-#[test]
-fn vectors() {
-    let paths = files("tests/vectors", "cell");
-    assert_eq!(paths.len(), VECTORS, "cells in tests/vectors");
-    for path in paths {
-        let listing = waves::of_file(&bytes(&path));
-        let expected = bytes(&path.with_extension("waves"));
-        let expected = String::from_utf8_lossy(&expected);
-        assert_eq!(listing, expected, "{}", path.display());
+fn compare(vectors: &[Vector]) {
+    for vector in vectors {
+        let listing = waves::of_file(&vector.file);
+        assert_eq!(listing, vector.listing, "{}", vector.path.display());
     }
+}
+
+/// The listings that were given.
+#[test]
+fn given() {
+    let vectors = vectors::given();
+    assert_eq!(vectors.len(), GIVEN, "listings in tests/vectors");
+    compare(&vectors);
+}
+
+/// The listings of the sample cells.
+#[test]
+fn samples() {
+    let samples = vectors::samples();
+    assert!(!samples.is_empty(), "no cell in cells");
+    compare(&samples);
 }

@@ -3,21 +3,20 @@
 use comparison::cell_file::Layout;
 use comparison::generate::live::{self, Size};
 use comparison::generate::Case;
-use comparison::program::{self, bytes, files};
+use comparison::program;
 use comparison::random::Random;
 use comparison::replay::hex;
+use comparison::vectors;
 use comparison::waves;
 
-/// The listings that stand beside the cells of the vectors.
+/// The listings that are kept, given ones and those of the sample cells.
 #[test]
 fn vectors() {
-    let paths = files("tests/vectors", "cell");
-    assert!(!paths.is_empty(), "no cell in tests/vectors");
-    for path in paths {
-        let expected = bytes(&path.with_extension("waves"));
-        let expected = String::from_utf8_lossy(&expected).into_owned();
-        let printed = program::run("waves", &bytes(&path));
-        assert_eq!(printed, Ok(expected), "{}", path.display());
+    let kept = [vectors::given(), vectors::samples()].concat();
+    assert!(!kept.is_empty(), "no cell is kept");
+    for vector in kept {
+        let printed = program::run("waves", &vector.file);
+        assert_eq!(printed, Ok(vector.listing), "{}", vector.path.display());
     }
 }
 

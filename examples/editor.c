@@ -1,0 +1,383 @@
+/*
+ * The layout editor in small: runs a cell for all patterns of its letters at once and
+ * shows what its nodes do.
+ *
+ *   editor CELL [PATTERN]
+ *
+ * It prints how many patterns hold each node high after the start and after each
+ * step, and then the wave of one pattern, 0 unless another is named: the nodes' values
+ * whenever one of them has changed, and the next change that pends. Columns are headed
+ * by the numbers of the nodes. A refusal is printed with its number and its word.
+ *
+ * From the repository's root, after `rt staticlib editor`:
+ *
+ *   gcc -std=c99 -O2 -Iinclude -o editor examples/editor.c target/staticlib/libeditor.a
+ *   ./editor cells/inverter.cell 1
+ *
+ * Exit status: 0; 1 if something was refused; 2 if there is no such file, the memory is
+ * too small or the arguments are wrong.
+ */
+#include "sts.h"
+
+#include <inttypes.h>
+#include <stdio.h>
+#include <stdlib.h>
+#include <string.h>
+
+/* How many entries the table and the working columns have. */
+#define TABLE_LENGTH ((size_t)STS_LONGEST_TABLE)
+#define WORKING_LENGTH ((size_t)STS_MOST_WORKING)
+
+/* The number of the first node record: 0 is ground, 1 is supply. */
+#define FIRST_NODE 2
+
+/* Longer than any cell. A file that is still longer is refused for its length, and
+   its first bytes are so for the same reason. */
+#define FILE_ROOM 4096
+
+/* Three columns of one length. */
+struct columns {
+    uint32_t *letter;
+    uint32_t *low;
+    uint32_t *high;
+    size_t length;
+};
+
+/* The record of a run at one moment. */
+struct moment {
+    uint32_t record[STS_RECORD_LENGTH];
+};
+
+/* A cell and its run: what the editor keeps of it. */
+struct session {
+    uint8_t file[FILE_ROOM];
+    size_t file_length;
+    uint32_t header[STS_HEADER_LENGTH];
+    struct columns table;
+    struct columns working;
+    /* The start and all steps. */
+    struct moment *moments;
+    size_t moments_count;
+    size_t moments_room;
+};
+
+static void no_memory(void)
+{
+    fputs("editor: not enough memory\n", stderr);
+    exit(2);
+}
+
+/* Prints the number of a refusal and the trade's word for it. */
+static void print_refusal(uint32_t answer)
+{
+    static const char *const words[] = {
+        "answered", "length", "header",  "chain",  "record",   "order",
+        "full",     "unsound", "buffer", "question", "finished",
+    };
+    const char *word = answer < sizeof words / sizeof words[0] ? words[answer] : "unknown";
+
+    printf("refused %" PRIu32 ": %s\n", answer, word);
+}
+
+static uint32_t *make_column(size_t length)
+{
+    uint32_t *column = calloc(length, sizeof *column);
+
+    if (column == NULL)
+        no_memory();
+    return column;
+}
+
+static void make_columns(struct columns *columns, size_t length)
+{
+    columns->letter = make_column(length);
+    columns->low = make_column(length);
+    columns->high = make_column(length);
+    columns->length = length;
+}
+
+static void free_columns(struct columns *columns)
+{
+    free(columns->letter);
+    free(columns->low);
+    free(columns->high);
+}
+
+/* Reads a file, or its first bytes. Gives 0 if it could be read. */
+static int read_file(struct session *session, const char *name)
+{
+    FILE *stream = fopen(name, "rb");
+    int failed;
+
+    if (stream == NULL) {
+        perror(name);
+        return 1;
+    }
+    session->file_length = fread(session->file, 1, FILE_ROOM, stream);
+    failed = ferror(stream);
+    if (failed)
+        perror(name);
+    fclose(stream);
+    return failed;
+}
+
+/* Makes room for one more moment; the record in it is that of the last one. */
+static struct moment *new_moment(struct session *session)
+{
+    size_t count = session->moments_count;
+
+    if (count == session->moments_room) {
+        size_t room = count == 0 ? 64 : 2 * count;
+        struct moment *moments = NULL;
+
+        if (room <= SIZE_MAX / sizeof *moments)
+            moments = realloc(session->moments, room * sizeof *moments);
+        if (moments == NULL)
+            no_memory();
+        session->moments = moments;
+        session->moments_room = room;
+    }
+    if (count == 0)
+        memset(&session->moments[count], 0, sizeof session->moments[count]);
+    else
+        session->moments[count] = session->moments[count - 1];
+    return &session->moments[count];
+}
+
+/* Starts a run of the cell in a fresh table. Gives the call's answer. */
+static uint32_t start(struct session *session)
+{
+    struct columns *table = &session->table;
+    struct columns *working = &session->working;
+    struct moment *moment = new_moment(session);
+    uint32_t answer;
+
+    answer = sts_fresh(table->letter, table->length,
+                       table->low, table->length,
+                       table->high, table->length);
+    if (answer != STS_OK)
+        return answer;
+    answer = sts_start(session->file, session->file_length,
+                       table->letter, table->length,
+                       table->low, table->length,
+                       table->high, table->length,
+                       STS_FRESH_USED,
+                       moment->record, STS_RECORD_LENGTH,
+                       working->letter, working->length,
+                       working->low, working->length,
+                       working->high, working->length);
+    if (answer == STS_OK)
+        session->moments_count++;
+    return answer;
+}
+
+/* Takes one step. Gives the call's answer. */
+static uint32_t step(struct session *session)
+{
+    struct columns *table = &session->table;
+    struct columns *working = &session->working;
+    struct moment *moment = new_moment(session);
+    uint32_t answer;
+
+    answer = sts_step(session->file, session->file_length,
+                      table->letter, table->length,
+                      table->low, table->length,
+                      table->high, table->length,
+                      moment->record, STS_RECORD_LENGTH,
+                      working->letter, working->length,
+                      working->low, working->length,
+                      working->high, working->length);
+    if (answer == STS_OK)
+        session->moments_count++;
+    return answer;
+}
+
+/* Nothing is ever removed from the table: with the table's present used count all
+   earlier records of the run can be read. */
+static void renew_moments(struct session *session)
+{
+    size_t last = session->moments_count - 1;
+    uint32_t used = session->moments[last].record[STS_RUN_USED];
+    size_t i;
+
+    for (i = 0; i < last; i++)
+        session->moments[i].record[STS_RUN_USED] = used;
+}
+
+/* Prints the head of a table: the first columns' names, then the nodes' numbers. */
+static void print_head(const struct session *session, const char *names)
+{
+    uint32_t node;
+
+    printf("%s", names);
+    for (node = 0; node < session->header[STS_NODES]; node++)
+        printf(" %6" PRIu32, FIRST_NODE + node);
+    printf("\n");
+}
+
+/* Prints how many patterns hold each node high at each moment. */
+static uint32_t print_counts(const struct session *session)
+{
+    const struct columns *table = &session->table;
+    uint32_t letters = session->header[STS_LETTERS];
+    uint32_t counts[STS_RUN_CHANGES - STS_RUN_VALUES] = {0};
+    size_t i;
+
+    printf("patterns that are high, of %" PRIu32 "\n", UINT32_C(1) << letters);
+    print_head(session, "     ps");
+    for (i = 0; i < session->moments_count; i++) {
+        const uint32_t *record = session->moments[i].record;
+        uint32_t node;
+
+        for (node = 0; node < session->header[STS_NODES]; node++) {
+            uint32_t entry = record[STS_RUN_VALUES + node];
+            uint32_t answer;
+
+            /* Two functions are equal exactly if their entries are. */
+            if (i > 0 && entry == session->moments[i - 1].record[STS_RUN_VALUES + node])
+                continue;
+            answer = sts_count(letters,
+                               table->letter, table->length,
+                               table->low, table->length,
+                               table->high, table->length,
+                               record[STS_RUN_USED], entry, &counts[node]);
+            if (answer != STS_OK)
+                return answer;
+        }
+        printf("%7" PRIu32, record[STS_RUN_TIME]);
+        for (node = 0; node < session->header[STS_NODES]; node++)
+            printf(" %6" PRIu32, counts[node]);
+        printf("\n");
+    }
+    return STS_OK;
+}
+
+/* Asks for the values of all nodes at a pattern, and for the earliest next change. */
+static uint32_t ask(const struct session *session, const uint32_t *record, uint32_t pattern,
+                    uint32_t *values, uint32_t *change)
+{
+    const struct columns *table = &session->table;
+    uint32_t node;
+
+    *change = STS_NEVER;
+    for (node = 0; node < session->header[STS_NODES]; node++) {
+        uint32_t told[STS_ANSWER_LENGTH];
+        uint32_t answer;
+
+        answer = sts_ask(session->file, session->file_length,
+                         table->letter, table->length,
+                         table->low, table->length,
+                         table->high, table->length,
+                         record, STS_RECORD_LENGTH,
+                         FIRST_NODE + node, pattern,
+                         told, STS_ANSWER_LENGTH);
+        if (answer != STS_OK)
+            return answer;
+        values[node] = told[STS_VALUE];
+        if (told[STS_CHANGE] < *change)
+            *change = told[STS_CHANGE];
+    }
+    return STS_OK;
+}
+
+/* Prints the wave of one pattern: the moments at which something changes there. */
+static uint32_t print_wave(const struct session *session, uint32_t pattern)
+{
+    uint32_t values[STS_RUN_CHANGES - STS_RUN_VALUES] = {0};
+    uint32_t before[STS_RUN_CHANGES - STS_RUN_VALUES];
+    size_t i;
+
+    for (i = 0; i < session->moments_count; i++) {
+        const uint32_t *record = session->moments[i].record;
+        uint32_t change;
+        uint32_t node;
+        uint32_t answer;
+
+        memcpy(before, values, sizeof before);
+        answer = ask(session, record, pattern, values, &change);
+        if (answer != STS_OK)
+            return answer;
+        if (i == 0) {
+            printf("wave of pattern %" PRIu32 "\n", pattern);
+            print_head(session, "     ps    next");
+        } else if (memcmp(before, values, sizeof before) == 0) {
+            continue;
+        }
+        printf("%7" PRIu32, record[STS_RUN_TIME]);
+        if (change == STS_NEVER)
+            printf("   never");
+        else
+            printf(" %7" PRIu32, change);
+        for (node = 0; node < session->header[STS_NODES]; node++)
+            printf(" %6" PRIu32, values[node]);
+        printf("\n");
+    }
+    return STS_OK;
+}
+
+/* Reads the cell, runs it to its end and prints what it does. Gives the first refusal
+   that is not the end of the run, or 0. */
+static uint32_t show(struct session *session, uint32_t pattern)
+{
+    uint32_t end;
+    uint32_t answer;
+
+    answer = sts_read(session->file, session->file_length,
+                      session->header, STS_HEADER_LENGTH);
+    if (answer != STS_OK)
+        return answer;
+    printf("cell of %" PRIu32 " nodes, %" PRIu32 " transistors, %" PRIu32 " schedule entries and %"
+           PRIu32 " letters, up to %" PRIu32 " ps\n",
+           session->header[STS_NODES], session->header[STS_TRANSISTORS],
+           session->header[STS_ENTRIES], session->header[STS_LETTERS],
+           session->header[STS_HORIZON]);
+    answer = start(session);
+    if (answer != STS_OK)
+        return answer;
+    do
+        end = step(session);
+    while (end == STS_OK);
+    renew_moments(session);
+    answer = print_counts(session);
+    if (answer == STS_OK)
+        answer = print_wave(session, pattern);
+    if (answer == STS_OK && end != STS_FINISHED)
+        answer = end;
+    return answer;
+}
+
+/* A pattern's number, or one that no cell has. Gives 0 if it is one. */
+static int read_pattern(const char *text, uint32_t *pattern)
+{
+    char *end;
+    unsigned long number;
+
+    if (*text < '0' || *text > '9')
+        return 1;
+    number = strtoul(text, &end, 10);
+    *pattern = number > UINT32_MAX ? UINT32_MAX : (uint32_t)number;
+    return *end != '\0';
+}
+
+int main(int count, char **arguments)
+{
+    static struct session session;
+    uint32_t pattern = 0;
+    uint32_t answer;
+
+    if (count < 2 || count > 3 || (count == 3 && read_pattern(arguments[2], &pattern) != 0)) {
+        fputs("usage: editor CELL [PATTERN]\n", stderr);
+        return 2;
+    }
+    if (read_file(&session, arguments[1]) != 0)
+        return 2;
+    make_columns(&session.table, TABLE_LENGTH);
+    make_columns(&session.working, WORKING_LENGTH);
+    answer = show(&session, pattern);
+    if (answer != STS_OK)
+        print_refusal(answer);
+    free(session.moments);
+    free_columns(&session.working);
+    free_columns(&session.table);
+    return answer == STS_OK ? 0 : 1;
+}
