@@ -10,8 +10,9 @@
  * The arrays of one call do not overlap: what a call does with arrays that do is
  * outside all its promises.
  *
- * Stack. A caller has at least 1 MiB of stack free: a call on a function table
- * keeps its working memory there.
+ * Stack. A caller has at least 2 MiB of stack free. The calls keep an index of
+ * each table there, half a MiB long: one in a call on a function table and in a
+ * question about a run, two in a call that starts or advances a run.
  *
  * Answers. Every call returns 0 if it was answered and else the number of a
  * refusal. A call may have several reasons to refuse; which of them it gives is
@@ -321,6 +322,211 @@ uint32_t sts_count(uint32_t letters,
                    uint32_t used,
                    uint32_t function,
                    uint32_t *count);
+
+/*
+ * Runs.
+ *
+ * A run is what a cell does, for all patterns of its letters at once: it starts at
+ * 0 ps and goes from each moment at which something happens to the next. Nodes are
+ * numbered as in the file: 0 is ground, 1 is supply, and 2 to N + 1 are the node
+ * records. At a pattern each of them has a value, 0 or 1, and a next change: the
+ * time in ps at which it will flip, or never.
+ *
+ * Values and next changes are functions of the letters and stand in a function
+ * table. The caller keeps them beside it in a record, STS_RECORD_LENGTH numbers
+ * that enum sts_record names:
+ *
+ *   record[STS_RUN_TIME]             the time of the run, in ps
+ *   record[STS_RUN_USED]             the used count of the table
+ *   record[STS_RUN_VALUES + n - 2]   the entry of the value of node n
+ *   record[STS_RUN_CHANGES + n - 2]  the entry of the next change of node n
+ *
+ * Every call is given the cell's file and reads it anew; all calls of one run are
+ * given the same. The letters of the table are those of the cell: K is the number
+ * that its header states. Places of the record for nodes that the cell does not
+ * have are not looked at; a call that starts or advances a run leaves them 0.
+ *
+ * A record is sound with its table if
+ *
+ *   - the table is sound for K letters with the record's used count;
+ *   - the time is at most the horizon;
+ *   - all entries are below the used count;
+ *   - a value is 0 or 1 at every pattern;
+ *   - a next change is at every pattern a time after the record's and at most the
+ *     horizon, or never;
+ *   - the next change of an input is entry STS_ENTRY_NEVER.
+ *
+ * The calls check this, so records too may be kept, copied and written anywhere.
+ * Nothing is ever removed from the table: a copy of an earlier record is sound
+ * again, and may be asked about or gone on from, when its used count is set to the
+ * table's present one. One table may hold several runs so.
+ *
+ * The calls that start or advance a run are also lent working memory: three
+ * columns of one length, from STS_LEAST_WORKING to STS_MOST_WORKING. What they
+ * hold does not matter. Their length never changes an answer; large steps may be
+ * faster with longer ones.
+ *
+ * After an answer the record is the new one, and the table's columns hold what it
+ * names: the entries that were missing are added behind those that were used, no
+ * others are, and the columns are 0 from record[STS_RUN_USED] on. A refused call
+ * changes neither the record nor the table. The working columns are 0 afterwards,
+ * after an answer and after a refusal, but for one: after STS_BUFFER nothing is
+ * touched.
+ *
+ * Of several reasons to refuse, the first in this order is given, as far as a call
+ * has it:
+ *
+ *   STS_BUFFER    the record has not STS_RECORD_LENGTH numbers, or the answer of a
+ *                 question not STS_ANSWER_LENGTH; the table's columns differ in
+ *                 length, or have fewer than STS_LEAST_TABLE or more than
+ *                 STS_LONGEST_TABLE entries; the working columns differ in length,
+ *                 or have fewer than STS_LEAST_WORKING or more than
+ *                 STS_MOST_WORKING entries
+ *   STS_LENGTH    the file has fewer than 16 bytes
+ *   STS_HEADER    the file's header is wrong
+ *   STS_LENGTH    the file has not the length that its header states
+ *   STS_CHAIN     the chain of the nodes, transistors or entries is wrong
+ *   STS_RECORD    a field of a node, transistor or entry of the file is wrong
+ *   STS_ORDER     the schedule does not rise
+ *   STS_UNSOUND   the record is not sound with its table
+ *   STS_FINISHED  at no pattern does anything pend, and nothing is scheduled after
+ *                 the record's time
+ *   STS_QUESTION  there is no such node or pattern
+ *   STS_FULL      the entries used and those to be added are more than the table's
+ *                 length, and only then: where they just fit, it is answered
+ */
+
+/* How many numbers the record of a run has. */
+#define STS_RECORD_LENGTH 50
+
+/* Where they stand. */
+enum sts_record {
+    /* The time, in ps. */
+    STS_RUN_TIME = 0,
+    /* The used count of the table. */
+    STS_RUN_USED = 1,
+    /* From here on, to 25: the values' entries of nodes 2, 3 and so on. */
+    STS_RUN_VALUES = 2,
+    /* From here on, to 49: the next changes' entries of nodes 2, 3 and so on. */
+    STS_RUN_CHANGES = 26
+};
+
+/* How many numbers the answer of a question about a run has. */
+#define STS_ANSWER_LENGTH 2
+
+/* Where each of them stands. */
+enum sts_told {
+    /* The node's value, 0 or 1. */
+    STS_VALUE = 0,
+    /* Its next change: a time in ps, or STS_NEVER. */
+    STS_CHANGE = 1
+};
+
+/* The lengths that working columns may have. */
+#define STS_LEAST_WORKING 4096
+#define STS_MOST_WORKING 65536
+
+/*
+ * Starts a run: every node takes its source at 0 ps, and what will change next is
+ * worked out. What the record held does not matter.
+ *
+ *   file, file_length                 the file's bytes; any length
+ *   letter, low, high                 the table's columns, which may be added to;
+ *                                     the table is fresh or holds functions
+ *   used                              its used count; afterwards it is
+ *                                     record[STS_RUN_USED]
+ *   record, record_length             receives the record of the run;
+ *                                     record_length is STS_RECORD_LENGTH
+ *   work_letter, work_low, work_high  the working columns
+ *
+ * Returns STS_OK, STS_BUFFER, STS_LENGTH, STS_HEADER, STS_CHAIN, STS_RECORD,
+ * STS_ORDER, STS_UNSOUND or STS_FULL.
+ *
+ *   STS_UNSOUND  here if the table is not sound for K letters with used
+ */
+uint32_t sts_start(const uint8_t *file, size_t file_length,
+                   uint32_t *letter, size_t letter_length,
+                   uint32_t *low, size_t low_length,
+                   uint32_t *high, size_t high_length,
+                   uint32_t used,
+                   uint32_t *record, size_t record_length,
+                   uint32_t *work_letter, size_t work_letter_length,
+                   uint32_t *work_low, size_t work_low_length,
+                   uint32_t *work_high, size_t work_high_length);
+
+/*
+ * Takes one step: to the earliest time, over all patterns, at which a change pends
+ * or an input is scheduled.
+ *
+ *   file, file_length                 the file's bytes; any length
+ *   letter, low, high                 the table's columns, which may be added to
+ *   record, record_length             the record of the run, before and after;
+ *                                     record_length is STS_RECORD_LENGTH
+ *   work_letter, work_low, work_high  the working columns
+ *
+ * Returns STS_OK, STS_BUFFER, STS_LENGTH, STS_HEADER, STS_CHAIN, STS_RECORD,
+ * STS_ORDER, STS_UNSOUND, STS_FINISHED or STS_FULL.
+ */
+uint32_t sts_step(const uint8_t *file, size_t file_length,
+                  uint32_t *letter, size_t letter_length,
+                  uint32_t *low, size_t low_length,
+                  uint32_t *high, size_t high_length,
+                  uint32_t *record, size_t record_length,
+                  uint32_t *work_letter, size_t work_letter_length,
+                  uint32_t *work_low, size_t work_low_length,
+                  uint32_t *work_high, size_t work_high_length);
+
+/*
+ * Takes every step that is not later than a time, and no other. Afterwards the
+ * record has the time of the last step taken, or its own where there was none: it
+ * is not moved to until. A run that is finished is answered without a step. Where
+ * one of the steps does not fit into the table, the whole call is refused and none
+ * is kept.
+ *
+ *   file, file_length                 the file's bytes; any length
+ *   until                             a time in ps; any number
+ *   letter, low, high                 the table's columns, which may be added to
+ *   record, record_length             the record of the run, before and after;
+ *                                     record_length is STS_RECORD_LENGTH
+ *   work_letter, work_low, work_high  the working columns
+ *
+ * Returns STS_OK, STS_BUFFER, STS_LENGTH, STS_HEADER, STS_CHAIN, STS_RECORD,
+ * STS_ORDER, STS_UNSOUND or STS_FULL.
+ */
+uint32_t sts_run(const uint8_t *file, size_t file_length,
+                 uint32_t until,
+                 uint32_t *letter, size_t letter_length,
+                 uint32_t *low, size_t low_length,
+                 uint32_t *high, size_t high_length,
+                 uint32_t *record, size_t record_length,
+                 uint32_t *work_letter, size_t work_letter_length,
+                 uint32_t *work_low, size_t work_low_length,
+                 uint32_t *work_high, size_t work_high_length);
+
+/*
+ * Gives the value and the next change of a node at a pattern. Table and record are
+ * only read. Ground is always 0 and supply always 1, and both never change.
+ *
+ *   file, file_length      the file's bytes; any length
+ *   letter, low, high      the table's columns
+ *   record, record_length  the record of the run; record_length is
+ *                          STS_RECORD_LENGTH
+ *   node                   a node, 0 to N + 1
+ *   pattern                a number below 2 to the power K
+ *   answer, answer_length  receives the two numbers that enum sts_told names;
+ *                          answer_length is STS_ANSWER_LENGTH
+ *
+ * Returns STS_OK, STS_BUFFER, STS_LENGTH, STS_HEADER, STS_CHAIN, STS_RECORD,
+ * STS_ORDER, STS_UNSOUND or STS_QUESTION. A refused question leaves answer as it
+ * was.
+ */
+uint32_t sts_ask(const uint8_t *file, size_t file_length,
+                 const uint32_t *letter, size_t letter_length,
+                 const uint32_t *low, size_t low_length,
+                 const uint32_t *high, size_t high_length,
+                 const uint32_t *record, size_t record_length,
+                 uint32_t node, uint32_t pattern,
+                 uint32_t *answer, size_t answer_length);
 
 #ifdef __cplusplus
 }

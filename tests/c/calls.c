@@ -529,6 +529,451 @@ static void check_longest(void)
           "sts_number refuses more than the longest table");
 }
 
+/*
+ * A run of the inverter: its table, of which so many entries are lent, its record
+ * with numbers beside it, and the record's places that the inverter uses.
+ */
+#define JUST_ENOUGH 14
+
+struct run {
+    struct table table;
+    uint32_t record[STS_RECORD_LENGTH + MARGIN];
+};
+
+/* The record: time, used count, the values' entries and the next changes'. */
+static const uint32_t moments[4][6] = {
+    { 0, 5, 3, 4, STS_ENTRY_NEVER, STS_ENTRY_NEVER },
+    { 200, 11, 5, 4, STS_ENTRY_NEVER, 10 },
+    { 250, 14, 5, 12, STS_ENTRY_NEVER, 13 },
+    { 300, 14, 5, 11, STS_ENTRY_NEVER, STS_ENTRY_NEVER },
+};
+
+/* Value and next change of nodes 2 and 3 at the four patterns, at each moment. */
+static const uint32_t wires[4][2][4][STS_ANSWER_LENGTH] = {
+    { { { 0, STS_NEVER }, { 1, STS_NEVER }, { 0, STS_NEVER }, { 1, STS_NEVER } },
+      { { 1, STS_NEVER }, { 0, STS_NEVER }, { 1, STS_NEVER }, { 0, STS_NEVER } } },
+    { { { 0, STS_NEVER }, { 0, STS_NEVER }, { 1, STS_NEVER }, { 1, STS_NEVER } },
+      { { 1, STS_NEVER }, { 0, 300 }, { 1, 250 }, { 0, STS_NEVER } } },
+    { { { 0, STS_NEVER }, { 0, STS_NEVER }, { 1, STS_NEVER }, { 1, STS_NEVER } },
+      { { 1, STS_NEVER }, { 0, 300 }, { 0, STS_NEVER }, { 0, STS_NEVER } } },
+    { { { 0, STS_NEVER }, { 0, STS_NEVER }, { 1, STS_NEVER }, { 1, STS_NEVER } },
+      { { 1, STS_NEVER }, { 1, STS_NEVER }, { 0, STS_NEVER }, { 0, STS_NEVER } } },
+};
+
+/* The working columns, with a number more than is lent at the least. */
+static uint32_t working[3][STS_LEAST_WORKING + 1];
+
+#define SOILED 0xab
+
+static void soil_working(void)
+{
+    memset(working, SOILED, sizeof working);
+}
+
+/* The lent numbers consist of this byte, and the number past each column is as it was. */
+static int working_is(uint8_t byte)
+{
+    const uint8_t *at;
+    size_t i, column;
+
+    for (column = 0; column < 3; column++) {
+        at = (const uint8_t *)working[column];
+        for (i = 0; i < sizeof working[column]; i++)
+            if (at[i] != (i < STS_LEAST_WORKING * sizeof(uint32_t) ? byte : SOILED))
+                return 0;
+    }
+    return 1;
+}
+
+/* The calls that start or advance a run, numbered. */
+enum { START, STEP, RUN };
+
+/* What such a call is given. */
+struct task {
+    int call;
+    const uint8_t *file;
+    size_t file_length;
+    /* The used count of a start; the time of a run. */
+    uint32_t number;
+    size_t lengths[3];
+    size_t record_length;
+    size_t work_lengths[3];
+};
+
+static struct task task_of(int call, uint32_t number, size_t length)
+{
+    struct task k;
+    int i;
+
+    k.call = call;
+    k.file = inverter;
+    k.file_length = sizeof inverter;
+    k.number = number;
+    k.record_length = STS_RECORD_LENGTH;
+    for (i = 0; i < 3; i++) {
+        k.lengths[i] = length;
+        k.work_lengths[i] = STS_LEAST_WORKING;
+    }
+    return k;
+}
+
+#define TABLE(t, k)                                                                            \
+    (t)->letter, (k)->lengths[0], (t)->low, (k)->lengths[1], (t)->high, (k)->lengths[2]
+#define WORKING(k)                                                                             \
+    working[0], (k)->work_lengths[0], working[1], (k)->work_lengths[1], working[2],            \
+        (k)->work_lengths[2]
+
+static uint32_t do_task(const struct task *k, struct run *r)
+{
+    struct table *t = &r->table;
+
+    soil_working();
+    switch (k->call) {
+    case START:
+        return sts_start(k->file, k->file_length, TABLE(t, k), k->number, r->record,
+                         k->record_length, WORKING(k));
+    case STEP:
+        return sts_step(k->file, k->file_length, TABLE(t, k), r->record, k->record_length,
+                        WORKING(k));
+    default:
+        return sts_run(k->file, k->file_length, k->number, TABLE(t, k), r->record,
+                       k->record_length, WORKING(k));
+    }
+}
+
+/* A fresh table of this length, and a record of other numbers. */
+static void make_run(struct run *r, size_t length)
+{
+    memset(r, SOILED, sizeof *r);
+    check(sts_fresh(COLUMNS(&r->table, length)) == STS_OK, "sts_fresh makes a run's table");
+}
+
+/* The record is that of a moment, with zeros past the inverter's nodes and nothing written
+   past it. */
+static int record_is(const struct run *r, int moment)
+{
+    uint32_t expected[STS_RECORD_LENGTH + MARGIN];
+
+    memset(expected, 0, sizeof expected);
+    memset(expected + STS_RECORD_LENGTH, SOILED, MARGIN * sizeof *expected);
+    expected[STS_RUN_TIME] = moments[moment][0];
+    expected[STS_RUN_USED] = moments[moment][1];
+    memcpy(expected + STS_RUN_VALUES, moments[moment] + 2, 2 * sizeof *expected);
+    memcpy(expected + STS_RUN_CHANGES, moments[moment] + 4, 2 * sizeof *expected);
+    return memcmp(r->record, expected, sizeof expected) == 0;
+}
+
+static int answer_is(const struct run *r, size_t length, uint32_t node, uint32_t pattern,
+                     const uint32_t *expected)
+{
+    uint32_t answer[STS_ANSWER_LENGTH] = { 0xfeedu, 0xfeedu };
+
+    return sts_ask(inverter, sizeof inverter, COLUMNS(&r->table, length), r->record,
+                   STS_RECORD_LENGTH, node, pattern, answer, STS_ANSWER_LENGTH) == STS_OK &&
+           memcmp(answer, expected, sizeof answer) == 0;
+}
+
+/* Questions give the values and next changes of a moment, at every node and pattern. */
+static void check_wires(const struct run *r, size_t length, int moment)
+{
+    static const uint32_t rails[2][STS_ANSWER_LENGTH] = { { 0, STS_NEVER }, { 1, STS_NEVER } };
+    const struct run before = *r;
+    uint32_t node, pattern;
+
+    for (pattern = 0; pattern < 4; pattern++)
+        for (node = 0; node < 4; node++)
+            check(answer_is(r, length, node, pattern,
+                            node < 2 ? rails[node] : wires[moment][node - 2][pattern]),
+                  "sts_ask gives a node's value and next change at a pattern");
+    check(memcmp(r, &before, sizeof *r) == 0, "sts_ask changes neither table nor record");
+}
+
+/* The call is answered and leaves the run at a moment. */
+static void check_task(const struct task *k, struct run *r, int moment, const char *what)
+{
+    check(do_task(k, r) == STS_OK, what);
+    check(record_is(r, moment), "the record holds the moment and nothing else is written");
+    check(working_is(0), "working is 0 after an answer");
+    check_wires(r, k->lengths[0], moment);
+}
+
+/* The call is refused so, and neither table nor record changes. */
+static void check_task_refused(const struct task *k, const struct run *r, uint32_t number,
+                               const char *what)
+{
+    struct run after = *r;
+
+    check(do_task(k, &after) == number, what);
+    check(memcmp(&after, r, sizeof after) == 0, "a refused call leaves the run as it was");
+    check(working_is(number == STS_BUFFER ? SOILED : 0),
+          "working is 0 after a refusal, and untouched after 8");
+}
+
+/* The run after so many steps, in a table of this length. */
+static void make_moment(struct run *r, size_t length, int moment)
+{
+    const struct task start = task_of(START, STS_FRESH_USED, length);
+    const struct task step = task_of(STEP, 0, length);
+    int i;
+
+    make_run(r, length);
+    check_task(&start, r, 0, "sts_start starts the inverter");
+    for (i = 1; i <= moment; i++)
+        check_task(&step, r, i, "sts_step steps the inverter");
+}
+
+static void check_steps(void)
+{
+    const struct task step = task_of(STEP, 0, JUST_ENOUGH);
+    struct run r;
+
+    make_moment(&r, JUST_ENOUGH, 3);
+    check(r.table.letter[JUST_ENOUGH] == 0xababababu && r.table.low[JUST_ENOUGH] == 0xababababu &&
+              r.table.high[JUST_ENOUGH] == 0xababababu,
+          "a run writes nothing past its table");
+    check_task_refused(&step, &r, STS_FINISHED, "sts_step refuses a finished run with 10");
+}
+
+static void check_runs(void)
+{
+    static const uint32_t until[6] = { 199, 200, 249, 250, 300, STS_NEVER };
+    static const int reached[6] = { 0, 1, 1, 2, 3, 3 };
+    struct task k;
+    struct run r, first;
+    int i;
+
+    make_moment(&first, JUST_ENOUGH, 0);
+    for (i = 0; i < 6; i++) {
+        k = task_of(RUN, until[i], JUST_ENOUGH);
+        r = first;
+        check_task(&k, &r, reached[i], "sts_run takes every step not later");
+        check_task(&k, &r, reached[i], "sts_run again takes no step, finished or not");
+    }
+    r.record[STS_RUN_VALUES + 2] = r.record[STS_RUN_CHANGES + 23] = 99;
+    check_task(&k, &r, 3, "places past the node records are not looked at");
+}
+
+static void check_full_runs(void)
+{
+    const struct task start = task_of(START, STS_FRESH_USED, 4);
+    const struct task step = task_of(STEP, 0, JUST_ENOUGH - 1);
+    const struct task run = task_of(RUN, 1000, JUST_ENOUGH - 1);
+    struct run r;
+
+    make_run(&r, 4);
+    check_task_refused(&start, &r, STS_FULL, "with 4 entries the start is refused 6");
+    make_moment(&r, JUST_ENOUGH - 1, 0);
+    check_task_refused(&run, &r, STS_FULL, "with 13 entries the run is refused 6 as a whole");
+    make_moment(&r, JUST_ENOUGH - 1, 1);
+    check_task_refused(&step, &r, STS_FULL, "with 13 entries the step to 250 is refused 6");
+}
+
+/* An earlier record is good again with the present used count, and with no other. */
+static void check_earlier(void)
+{
+    const struct task step = task_of(STEP, 0, ROOM);
+    struct run r;
+    uint32_t record[STS_RECORD_LENGTH];
+
+    make_moment(&r, ROOM, 0);
+    memcpy(record, r.record, sizeof record);
+    check_task(&step, &r, 1, "a step beside a copy of the record");
+    memcpy(r.record, record, sizeof record);
+    check_task_refused(&step, &r, STS_UNSOUND, "an earlier used count is refused 7");
+    r.record[STS_RUN_USED] = moments[1][1];
+    check_wires(&r, ROOM, 0);
+    check_task(&step, &r, 1, "a step from an earlier record adds nothing twice");
+}
+
+/* Each length that may be wrong, one after the other. */
+static void check_task_lengths(struct task k, const struct run *r)
+{
+    static const char wrong[] = "a lent length out of its range is refused 8";
+    const struct task right_one = k;
+    int i;
+
+    k.record_length = STS_RECORD_LENGTH - 1;
+    check_task_refused(&k, r, STS_BUFFER, wrong);
+    k.record_length = STS_RECORD_LENGTH + 1;
+    check_task_refused(&k, r, STS_BUFFER, wrong);
+    k.record_length = 0;
+    check_task_refused(&k, r, STS_BUFFER, wrong);
+    for (i = 0; i < 3; i++) {
+        k = right_one;
+        k.lengths[i]--;
+        check_task_refused(&k, r, STS_BUFFER, wrong);
+        k = right_one;
+        k.work_lengths[i]++;
+        check_task_refused(&k, r, STS_BUFFER, wrong);
+    }
+    k = right_one;
+    k.lengths[0] = k.lengths[1] = k.lengths[2] = 2;
+    check_task_refused(&k, r, STS_BUFFER, wrong);
+    k = right_one;
+    k.work_lengths[0] = k.work_lengths[1] = k.work_lengths[2] = STS_LEAST_WORKING - 1;
+    check_task_refused(&k, r, STS_BUFFER, wrong);
+    k.file_length = 3;
+    check_task_refused(&k, r, STS_BUFFER, "8 comes before the file's refusals");
+}
+
+/* A byte of the file changed, or the file cut, with a record that is not sound either. */
+static void check_task_file(struct task k, const struct run *made, size_t at, uint8_t byte,
+                            size_t length, uint32_t number)
+{
+    uint8_t file[sizeof inverter];
+    struct run r = *made;
+
+    memcpy(file, inverter, sizeof file);
+    file[at] = byte;
+    k.file = file;
+    k.file_length = length;
+    check_task_refused(&k, &r, number, "a wrong file is refused with its number");
+    r.record[STS_RUN_USED] = 2;
+    k.number = 2;
+    check_task_refused(&k, &r, number, "the file's refusals come before 7");
+}
+
+static void check_task_files(const struct task *k, const struct run *r)
+{
+    const size_t all = sizeof inverter;
+
+    check_task_file(*k, r, 0, 2, 15, STS_LENGTH);
+    check_task_file(*k, r, 3, 13, all - 1, STS_HEADER);
+    check_task_file(*k, r, 0, 2, all - 1, STS_LENGTH);
+    check_task_file(*k, r, 10, 0, all, STS_CHAIN);
+    check_task_file(*k, r, 32 + 6, 0, all, STS_RECORD);
+}
+
+/* A place of the record with another number. */
+static void check_task_unsound(struct task k, const struct run *made, size_t place, uint32_t number)
+{
+    struct run r = *made;
+
+    r.record[place] = number;
+    k.number = place == STS_RUN_USED && k.call == START ? number : k.number;
+    check_task_refused(&k, &r, STS_UNSOUND, "an unsound record is refused 7");
+}
+
+static void check_task_refusals(void)
+{
+    static const int calls[3] = { START, STEP, RUN };
+    struct run r;
+    struct task k;
+    int i;
+
+    make_moment(&r, JUST_ENOUGH, 1);
+    for (i = 0; i < 3; i++) {
+        k = task_of(calls[i], calls[i] == START ? moments[1][1] : 1000, JUST_ENOUGH);
+        check_task_lengths(k, &r);
+        check_task_files(&k, &r);
+        check_task_unsound(k, &r, STS_RUN_USED, 2);
+        check_task_unsound(k, &r, STS_RUN_USED, JUST_ENOUGH + 1);
+        if (calls[i] == START)
+            continue;
+        check_task_unsound(k, &r, STS_RUN_TIME, 1001);
+        check_task_unsound(k, &r, STS_RUN_TIME, 250);
+        check_task_unsound(k, &r, STS_RUN_VALUES, moments[1][1]);
+        check_task_unsound(k, &r, STS_RUN_VALUES, STS_ENTRY_NEVER);
+        check_task_unsound(k, &r, STS_RUN_CHANGES, STS_ENTRY_1);
+        check_task_unsound(k, &r, STS_RUN_CHANGES, 10);
+    }
+}
+
+/* What a question is given. */
+struct question {
+    size_t file_length;
+    size_t lengths[3];
+    size_t record_length;
+    uint32_t node;
+    uint32_t pattern;
+    size_t answer_length;
+};
+
+static const struct question asked = {
+    sizeof inverter, { JUST_ENOUGH, JUST_ENOUGH, JUST_ENOUGH }, STS_RECORD_LENGTH, 3, 2,
+    STS_ANSWER_LENGTH
+};
+
+/* The question is refused so, and nothing changes. */
+static void check_question(const struct run *r, const struct question *q, uint32_t number,
+                           const char *what)
+{
+    const struct run before = *r;
+    uint32_t answer[STS_ANSWER_LENGTH + 1] = { 0xfeed0000u, 0xfeed0001u, 0xfeed0002u };
+
+    check(sts_ask(inverter, q->file_length, TABLE(&r->table, q), r->record, q->record_length,
+                  q->node, q->pattern, answer, q->answer_length) == number,
+          what);
+    check(memcmp(r, &before, sizeof before) == 0 && answer[0] == 0xfeed0000u &&
+              answer[1] == 0xfeed0001u && answer[2] == 0xfeed0002u,
+          "a refused sts_ask changes nothing");
+}
+
+static void check_question_lengths(const struct run *r)
+{
+    static const char wrong[] = "sts_ask refuses a wrong length with 8";
+    struct question q = asked;
+    int i;
+
+    for (i = 0; i < 3; i++) {
+        q = asked;
+        q.lengths[i]--;
+        check_question(r, &q, STS_BUFFER, wrong);
+    }
+    q = asked;
+    q.record_length = STS_RECORD_LENGTH + 1;
+    check_question(r, &q, STS_BUFFER, wrong);
+    q = asked;
+    q.answer_length = STS_ANSWER_LENGTH + 1;
+    check_question(r, &q, STS_BUFFER, wrong);
+    q.answer_length = STS_ANSWER_LENGTH - 1;
+    q.file_length = 3;
+    check_question(r, &q, STS_BUFFER, "sts_ask refuses lengths before the file");
+}
+
+static void check_questions(void)
+{
+    struct run r;
+    struct question q = asked;
+
+    make_moment(&r, JUST_ENOUGH, 1);
+    check_question_lengths(&r);
+    q.node = 4;
+    check_question(&r, &q, STS_QUESTION, "sts_ask refuses node 4 with 9");
+    q = asked;
+    q.pattern = 4;
+    check_question(&r, &q, STS_QUESTION, "sts_ask refuses pattern 4 with 9");
+    q.file_length = sizeof inverter - 1;
+    check_question(&r, &q, STS_LENGTH, "sts_ask refuses a byte less with 1");
+    q.file_length = sizeof inverter;
+    r.record[STS_RUN_TIME] = 1001;
+    check_question(&r, &q, STS_UNSOUND, "sts_ask refuses an unsound record with 7 before 9");
+}
+
+/* The longest table and the longest working columns. */
+static void check_longest_run(void)
+{
+    static uint32_t work[3][STS_MOST_WORKING + 1];
+    uint32_t *letter = long_columns[0], *low = long_columns[1], *high = long_columns[2];
+    const size_t n = STS_LONGEST_TABLE, m = STS_MOST_WORKING;
+    struct run r;
+
+    memset(&r, SOILED, sizeof r);
+    check(sts_fresh(letter, n, low, n, high, n) == STS_OK, "sts_fresh makes the longest table");
+    check(sts_start(inverter, sizeof inverter, letter, n, low, n, high, n, STS_FRESH_USED,
+                    r.record, STS_RECORD_LENGTH, work[0], m + 1, work[1], m + 1, work[2],
+                    m + 1) == STS_BUFFER,
+          "sts_start refuses more than the longest working columns");
+    check(sts_start(inverter, sizeof inverter, letter, n, low, n, high, n, STS_FRESH_USED,
+                    r.record, STS_RECORD_LENGTH, work[0], m, work[1], m, work[2], m) == STS_OK &&
+              record_is(&r, 0),
+          "sts_start starts in the longest table");
+    check(sts_run(inverter, sizeof inverter, 1000, letter, n, low, n, high, n, r.record,
+                  STS_RECORD_LENGTH, work[0], m, work[1], m, work[2], m) == STS_OK &&
+              record_is(&r, 3),
+          "sts_run runs in the longest table");
+}
+
 int main(void)
 {
     check_read();
@@ -543,6 +988,13 @@ int main(void)
     check_table_refusals();
     check_full_tables();
     check_longest();
+    check_steps();
+    check_runs();
+    check_full_runs();
+    check_earlier();
+    check_task_refusals();
+    check_questions();
+    check_longest_run();
     if (failures > 0) {
         printf("%d of %d checks of the C calls failed\n", failures, checks);
         return 1;

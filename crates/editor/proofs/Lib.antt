@@ -1,3 +1,5 @@
 pub mod Five
 pub mod ReadCell
 pub mod Handed
+pub mod Column
+pub mod Course

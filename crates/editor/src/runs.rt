@@ -1,9 +1,12 @@
 // The calls on a run: start, step, run up to a picosecond, run question.
 ghost use mathlib.Core.Path.{_≡_};
-ghost use lib.ListN.{length};
+ghost use mathlib.Core.List.{_++_};
+ghost use Prim.Native.Nat.{_+_, _≤_};
+ghost use lib.ListN.{length, take, drop};
+ghost use Rattle.refusal.specs.Number.{replyNumber};
 ghost use Rattle.table.specs.Holds.{columns};
 ghost use Rattle.advance.specs.declared.Task.the-variants.{Start, Step, Until};
-ghost use Rattle.editor.specs.Runs.{recordIn, recordColumn, taskAnswer, TaskDone, askAnswer, AskDone};
+ghost use Rattle.editor.specs.Runs.{recordIn, recordColumn, taskAnswer, TaskDone, askAnswer, AskDone, columnAfterReply, toldAfterReply};
 use advance::Task;
 use advance::Went;
 use record::Run;
@@ -19,7 +22,10 @@ const RECORD: usize = 50;
 const TOLD: usize = 2;
 
 // 24 entries of a record from a place on.
-fn entries(record: &[u32], from: usize) -> [u32; 24] {
+fn entries(record: &[u32], from: usize) -> [u32; 24]
+    requires { ⌜ from + 24 ≤ length (now «record») ⌝ }
+    ensures { λ r. ⌜ r ≡ take 24 (drop from (now («record» .entry))) ⌝ }
+{
     let mut out = [0u32; 24];
     let mut i = 0;
     while i < 24 {
@@ -45,7 +51,10 @@ fn read_record(record: &[u32]) -> Run
 }
 
 // Entries into a record from a place on.
-fn write_entries(record: &mut [u32], from: usize, entries: [u32; 24]) {
+fn write_entries(record: &mut [u32], from: usize, entries: [u32; 24])
+    requires { ⌜ from + 24 ≤ length (now «record») ⌝ }
+    ensures { λ _. ⌜ now («record» .exit) ≡ take from (now («record» .entry)) ++ entries ++ drop (from + 24) (now («record» .entry)) ⌝ }
+{
     let mut i = 0;
     while i < 24 {
         record[from + i] = entries[i];
@@ -67,7 +76,10 @@ fn write_record(record: &mut [u32], r: Run)
 }
 
 // Hands an answer's record to the caller; a refusal leaves it as it was.
-fn give_run(went: Went, record: &mut [u32]) -> u32 {
+fn give_run(went: Went, record: &mut [u32]) -> u32
+    requires { ⌜ length (now «record») ≡ 50 ⌝ }
+    ensures { λ x. ⌜ (x ≡ replyNumber (went .reply)) × (now («record» .exit) ≡ columnAfterReply (now («record» .entry)) (went .run) (went .reply)) ⌝ }
+{
     let reply = went.reply;
     match reply {
         Reply::Done => {
@@ -195,7 +207,10 @@ pub extern "C" fn sts_run(
 }
 
 // Hands a question's answer to the caller; a refusal leaves it as it was.
-fn give_told(a: Asked, answer: &mut [u32]) -> u32 {
+fn give_told(a: Asked, answer: &mut [u32]) -> u32
+    requires { ⌜ length (now answer) ≡ 2 ⌝ }
+    ensures { λ x. ⌜ (x ≡ replyNumber (a .reply)) × (now (answer .exit) ≡ toldAfterReply (now (answer .entry)) (a .value) (a .change) (a .reply)) ⌝ }
+{
     let reply = a.reply;
     match reply {
         Reply::Done => {

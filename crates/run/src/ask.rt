@@ -11,6 +11,7 @@ use table::lengths_legal;
 use table::sound;
 ghost use mathlib.Core.Path.{_≡_};
 ghost use mathlib.Core.Bool.{true};
+ghost use Rattle.refusal.specs.declared.Reply.the-variants.{Refused};
 ghost use Rattle.refusal.specs.Answer.{answered};
 ghost use Rattle.format.specs.Legal.{checkCircuit};
 ghost use Rattle.format.specs.File.{readCell};
@@ -22,6 +23,7 @@ ghost use Rattle.net.specs.Net.{netCircuit};
 ghost use Rattle.net.specs.Laid.{Laid};
 ghost use Rattle.advance.specs.Task.{runIn};
 ghost use Rattle.run.specs.Asked.{AskedAs};
+ghost use Rattle.run.specs.Replied.{cellBy, Replied};
 
 // The reply, a node's value and its next change at a pattern, 0 with a refusal.
 pub struct Asked {
@@ -30,7 +32,9 @@ pub struct Asked {
     pub change: u32,
 }
 
-fn unasked(why: Refusal) -> Asked {
+fn unasked(why: Refusal) -> Asked
+    ensures { λ x. ⌜ (x .reply ≡ Refused why) × (x .value ≡ 0) × (x .change ≡ 0) ⌝ }
+{
     Asked {
         reply: Reply::Refused(why),
         value: 0,
@@ -86,6 +90,29 @@ fn ask_legal(cell: Cell, letter: &[u32], low: &[u32], high: &[u32], r: Run, n: u
     ask_open(&net, letter, low, high, &mut index[..m], r, n, p)
 }
 
+// On a cell beside the reply of reading or checking it.
+fn ask_replied(
+    reply: Reply,
+    cell: Cell,
+    letter: &[u32],
+    low: &[u32],
+    high: &[u32],
+    r: Run,
+    n: u32,
+    p: u32,
+) -> Asked
+    requires { ⌜ Replied reply cell ⌝ }
+    ensures { λ x. ⌜ AskedAs (askCall (cellBy reply cell) (columns (now (letter .entry)) (now (low .entry)) (now (high .entry))) (runIn (cellBy reply cell) r) n p) (x .reply) (x .value) (x .change) ⌝ }
+{
+    if !lengths_legal(letter, low, high) {
+        return unasked(Refusal::Buffer);
+    }
+    match reply {
+        Reply::Done => ask_legal(cell, letter, low, high, r, n, p),
+        Reply::Refused(why) => unasked(why),
+    }
+}
+
 // On a cell file.
 pub fn ask_file(
     file: &[u8],
@@ -98,18 +125,10 @@ pub fn ask_file(
 ) -> Asked
     ensures { λ x. ⌜ AskedAs (askCall (readCell (now (file .entry))) (columns (now (letter .entry)) (now (low .entry)) (now (high .entry))) (runIn (readCell (now (file .entry))) r) n p) (x .reply) (x .value) (x .change) ⌝ }
 {
-    if !lengths_legal(letter, low, high) {
-        return unasked(Refusal::Buffer);
-    }
     let reading = Cell::read(file);
     let reply = reading.reply;
-    match reply {
-        Reply::Done => {
-            let cell = reading.cell;
-            ask_legal(cell, letter, low, high, r, n, p)
-        }
-        Reply::Refused(why) => unasked(why),
-    }
+    let cell = reading.cell;
+    ask_replied(reply, cell, letter, low, high, r, n, p)
 }
 
 // On a cell by value.
@@ -124,11 +143,6 @@ pub fn ask_cell(
 ) -> Asked
     ensures { λ x. ⌜ AskedAs (askCall (checkCircuit (circuitOf cell)) (columns (now (letter .entry)) (now (low .entry)) (now (high .entry))) (runIn (checkCircuit (circuitOf cell)) r) n p) (x .reply) (x .value) (x .change) ⌝ }
 {
-    if !lengths_legal(letter, low, high) {
-        return unasked(Refusal::Buffer);
-    }
-    match cell.check() {
-        Reply::Done => ask_legal(cell, letter, low, high, r, n, p),
-        Reply::Refused(why) => unasked(why),
-    }
+    let reply = cell.check();
+    ask_replied(reply, cell, letter, low, high, r, n, p)
 }

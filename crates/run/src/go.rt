@@ -10,7 +10,8 @@ use table::clear;
 use table::index_len;
 use table::lengths_legal;
 ghost use mathlib.Core.Path.{_≡_};
-ghost use mathlib.Core.Bool.{true};
+ghost use mathlib.Core.Bool.{true, _&&_};
+ghost use Rattle.refusal.specs.declared.Reply.the-variants.{Refused};
 ghost use Rattle.refusal.specs.Answer.{answered};
 ghost use Rattle.format.specs.Legal.{checkCircuit};
 ghost use Rattle.format.specs.File.{readCell};
@@ -20,6 +21,7 @@ ghost use Rattle.rules.specs.Call.{workingLegal};
 ghost use Rattle.table.specs.Holds.{columns};
 ghost use Rattle.advance.specs.Task.{taskCall};
 ghost use Rattle.run.specs.Done.{DoneAs};
+ghost use Rattle.run.specs.Replied.{cellBy, Replied};
 
 const LEAST_WORKING: usize = 4096;
 
@@ -31,7 +33,9 @@ fn lengths(
     wletter: &[u32],
     wlow: &[u32],
     whigh: &[u32],
-) -> bool {
+) -> bool
+    ensures { λ x. ⌜ x ≡ (lengthsLegal (columns (now (letter .entry)) (now (low .entry)) (now (high .entry))) && workingLegal (columns (now (wletter .entry)) (now (wlow .entry)) (now (whigh .entry)))) ⌝ }
+{
     if !lengths_legal(letter, low, high) {
         return false;
     }
@@ -41,7 +45,9 @@ fn lengths(
     LEAST_WORKING <= wletter.len()
 }
 
-fn refused(why: Refusal, r: Run) -> Went {
+fn refused(why: Refusal, r: Run) -> Went
+    ensures { λ x. ⌜ (x .reply ≡ Refused why) × (x .run ≡ r) ⌝ }
+{
     Went {
         reply: Reply::Refused(why),
         run: r,
@@ -85,6 +91,34 @@ fn on_legal(
     went
 }
 
+// On a cell beside the reply of reading or checking it.
+fn on_replied(
+    reply: Reply,
+    cell: Cell,
+    task: Task,
+    letter: &mut [u32],
+    low: &mut [u32],
+    high: &mut [u32],
+    r: Run,
+    wletter: &mut [u32],
+    wlow: &mut [u32],
+    whigh: &mut [u32],
+) -> Went
+    requires { ⌜ Replied reply cell ⌝ }
+    ensures { λ x. ⌜ DoneAs (columns (now (letter .entry)) (now (low .entry)) (now (high .entry))) (columns (now (letter .exit)) (now (low .exit)) (now (high .exit))) (columns (now (wletter .entry)) (now (wlow .entry)) (now (whigh .entry))) (columns (now (wletter .exit)) (now (wlow .exit)) (now (whigh .exit))) r (taskCall (cellBy reply cell) task (columns (now (letter .entry)) (now (low .entry)) (now (high .entry))) r (columns (now (wletter .entry)) (now (wlow .entry)) (now (whigh .entry)))) (x .reply) (x .run) ⌝ }
+{
+    if !lengths(letter, low, high, wletter, wlow, whigh) {
+        return refused(Refusal::Buffer, r);
+    }
+    match reply {
+        Reply::Done => on_legal(cell, task, letter, low, high, r, wletter, wlow, whigh),
+        Reply::Refused(why) => {
+            clear(wletter, wlow, whigh, 0);
+            refused(why, r)
+        }
+    }
+}
+
 // On a cell file.
 pub fn on_file(
     file: &[u8],
@@ -99,21 +133,21 @@ pub fn on_file(
 ) -> Went
     ensures { λ x. ⌜ DoneAs (columns (now (letter .entry)) (now (low .entry)) (now (high .entry))) (columns (now (letter .exit)) (now (low .exit)) (now (high .exit))) (columns (now (wletter .entry)) (now (wlow .entry)) (now (whigh .entry))) (columns (now (wletter .exit)) (now (wlow .exit)) (now (whigh .exit))) r (taskCall (readCell (now (file .entry))) task (columns (now (letter .entry)) (now (low .entry)) (now (high .entry))) r (columns (now (wletter .entry)) (now (wlow .entry)) (now (whigh .entry)))) (x .reply) (x .run) ⌝ }
 {
-    if !lengths(letter, low, high, wletter, wlow, whigh) {
-        return refused(Refusal::Buffer, r);
-    }
     let reading = Cell::read(file);
     let reply = reading.reply;
-    match reply {
-        Reply::Done => {
-            let cell = reading.cell;
-            on_legal(cell, task, letter, low, high, r, wletter, wlow, whigh)
-        }
-        Reply::Refused(why) => {
-            clear(wletter, wlow, whigh, 0);
-            refused(why, r)
-        }
-    }
+    let cell = reading.cell;
+    on_replied(
+        reply,
+        cell,
+        task,
+        letter,
+        low,
+        high,
+        r,
+        wletter,
+        wlow,
+        whigh,
+    )
 }
 
 // On a cell by value.
@@ -130,14 +164,17 @@ pub fn on_cell(
 ) -> Went
     ensures { λ x. ⌜ DoneAs (columns (now (letter .entry)) (now (low .entry)) (now (high .entry))) (columns (now (letter .exit)) (now (low .exit)) (now (high .exit))) (columns (now (wletter .entry)) (now (wlow .entry)) (now (whigh .entry))) (columns (now (wletter .exit)) (now (wlow .exit)) (now (whigh .exit))) r (taskCall (checkCircuit (circuitOf cell)) task (columns (now (letter .entry)) (now (low .entry)) (now (high .entry))) r (columns (now (wletter .entry)) (now (wlow .entry)) (now (whigh .entry)))) (x .reply) (x .run) ⌝ }
 {
-    if !lengths(letter, low, high, wletter, wlow, whigh) {
-        return refused(Refusal::Buffer, r);
-    }
-    match cell.check() {
-        Reply::Done => on_legal(cell, task, letter, low, high, r, wletter, wlow, whigh),
-        Reply::Refused(why) => {
-            clear(wletter, wlow, whigh, 0);
-            refused(why, r)
-        }
-    }
+    let reply = cell.check();
+    on_replied(
+        reply,
+        cell,
+        task,
+        letter,
+        low,
+        high,
+        r,
+        wletter,
+        wlow,
+        whigh,
+    )
 }
