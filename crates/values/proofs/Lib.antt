@@ -1,3 +1,4 @@
 pub mod Series
 pub mod Single
 pub mod Arriving
+pub mod Taking

@@ -1,3 +1,4 @@
 pub mod All
 pub mod First
 pub mod Arriving
+pub mod Taken

@@ -1,5 +1,6 @@
 // Step rule 1 for all patterns: inputs scheduled at T take their source, inner nodes flip where their next change is T.
 use crate::Many;
+use crate::due::meets;
 use crate::source::source;
 use diagram::Operation;
 use functions::apply::apply;
@@ -11,6 +12,8 @@ ghost use mathlib.Core.Bool.{true};
 ghost use mathlib.Core.List.{map};
 ghost use Prim.Native.Nat.{ℕ, _+_, _<_};
 ghost use Rattle.diagram.specs.Store.{store};
+ghost use Rattle.diagram.specs.declared.Operation.the-variants.{Flip};
+ghost use Rattle.diagram.specs.Operation.{applied};
 ghost use Rattle.diagram.specs.Call.{tableOf};
 ghost use Rattle.table.specs.Holds.{columns, Outcome};
 ghost use Rattle.functions.specs.Open.{Open};
@@ -68,6 +71,42 @@ fn input_value(
     source(letter, low, high, index, used, net[net::LETTERS], byte)
 }
 
+// The value of an inner node after T: the present entry where its next change is T at no pattern.
+fn inner_value(
+    letter: &mut [u32],
+    low: &mut [u32],
+    high: &mut [u32],
+    index: &mut [u32],
+    used: u32,
+    k: u32,
+    time: u32,
+    value: u32,
+    change: u32,
+) -> Put
+    requires { ⌜ Open k (now letter) (now low) (now high) (now index) used × (value < used) × (change < used) ⌝ }
+    ensures { λ r. ⌜ Outcome (tableOf (columns (now (letter .entry)) (now (low .entry)) (now (high .entry))) used) (store k 0 (applied k (tableOf (columns (now (letter .entry)) (now (low .entry)) (now (high .entry))) used) (Flip time) value change) (tableOf (columns (now (letter .entry)) (now (low .entry)) (now (high .entry))) used)) (now (letter .exit)) (now (low .exit)) (now (high .exit)) (now (index .exit)) r ⌝ }
+{
+    if !meets(letter, low, high, used, k, change, time) {
+        return Put {
+            full: false,
+            entry: value,
+            used,
+        };
+    }
+    apply(
+        letter,
+        low,
+        high,
+        index,
+        used,
+        k,
+        Operation::Flip(time),
+        value,
+        change,
+        k,
+    )
+}
+
 // The value of node n after T.
 fn value_after(
     net: &[u32],
@@ -88,18 +127,16 @@ fn value_after(
     if is_input(net, n) {
         return input_value(net, letter, low, high, index, used, time, n, value);
     }
-    let k = net[net::LETTERS];
-    apply(
+    inner_value(
         letter,
         low,
         high,
         index,
         used,
-        k,
-        Operation::Flip(time),
+        net[net::LETTERS],
+        time,
         value,
         change,
-        k,
     )
 }
 

@@ -2,7 +2,7 @@
 use borrow.Author.Needs.{needs}
 use mathlib.Core.Path.{sym, _∙_}
 use Rattle.net.specs.Net.{netCircuit}
-use Rattle.values.proofs.Arriving.{value-input, value-inner, whole-operand}
+use Rattle.values.proofs.Arriving.{value-input, value-inner}
 use Rattle.values.proofs.arrive.value_after.Statement.{statement}
 use Rattle.values.proofs.arrive.value_after.Tie as tie
 
@@ -29,11 +29,11 @@ returns c =
     let s = c .before .before .before .before .before .before .before .before .before .before .before .before .before .before .before .before .before .before .before .before in
     value-input (s .pre .0 .1) (netCircuit (s .args .net .now)) (s .args .time) (s .args .n) (s .args .value) (s .args .change) (sym (c .before .before .before .before .before .before .before .before .before .before .before .before .before .before .is-input .ensures) ∙ c .before .before .before .before .before .before .before .before .before .before .before .before .before .if1 .taken) (c .before .before .before .before .before .before .before .before .input-value .ensures)
 
-shared-slice-read-k : tie.Need-shared-slice-read-k
-shared-slice-read-k c = search needs
+shared-slice-read-inner-value : tie.Need-shared-slice-read-inner-value
+shared-slice-read-inner-value c = search needs
 
-apply-requires : tie.Need-apply-requires
-apply-requires c κs = let s = c .before .before .before .before .before .before .before .before .before .before .before .before in (s .pre .0 .1, (whole-operand (s .pre .0 .1) (s .args .value) (s .pre .1 .1), whole-operand (s .pre .0 .1) (s .args .change) (s .pre .1 .2)))
+inner-value-requires : tie.Need-inner-value-requires
+inner-value-requires c κs = let s = c .before .before .before .before .before .before .before .before .before .before .before .before in (s .pre .0 .1, s .pre .1 .1, s .pre .1 .2)
 
 same-length-5 : tie.Need-same-length-5
 same-length-5 c = search needs
@@ -50,7 +50,7 @@ same-length-8 c = search needs
 returns-2 : tie.Need-returns-2
 returns-2 c =
     let s = c .before .before .before .before .before .before .before .before .before .before .before .before .before .before .before .before .before .before .before .before .before in
-    value-inner (s .pre .0 .1) (netCircuit (s .args .net .now)) (s .args .time) (s .args .n) (s .args .value) (s .args .change) (sym (c .before .before .before .before .before .before .before .before .before .before .before .before .before .before .before .is-input .ensures) ∙ c .before .before .before .before .before .before .before .before .before .before .before .before .before .before .if1 .left) (c .before .before .before .before .before .before .before .before .apply .ensures)
+    value-inner (s .pre .0 .1) (netCircuit (s .args .net .now)) (s .args .time) (s .args .n) (s .args .value) (s .args .change) (sym (c .before .before .before .before .before .before .before .before .before .before .before .before .before .before .before .is-input .ensures) ∙ c .before .before .before .before .before .before .before .before .before .before .before .before .before .before .if1 .left) (c .before .before .before .before .before .before .before .before .inner-value .ensures)
 
 pub value-after-spec : {M : Type 1} → statement M
 value-after-spec =
@@ -63,8 +63,8 @@ value-after-spec =
     same-length-3
     same-length-4
     returns
-    shared-slice-read-k
-    apply-requires
+    shared-slice-read-inner-value
+    inner-value-requires
     same-length-5
     same-length-6
     same-length-7
