@@ -8,7 +8,7 @@ use comparison::simulator::calls::{Call, Lent, ANSWER, RECORD, WORKING};
 use std::thread;
 
 /// The stack that the calls need at most.
-const STACK: usize = 1 << 20;
+const STACK: usize = 2 << 20;
 
 /// What the second implementation needs beside them.
 const BESIDE: usize = 64 << 10;
