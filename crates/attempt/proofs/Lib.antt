@@ -1,3 +1,4 @@
 pub mod Prepared
 pub mod Later
 pub mod Trying
+pub mod First

@@ -6,7 +6,7 @@ use prepare::prepare;
 use table::Put;
 ghost use mathlib.Core.Path.{_≡_};
 ghost use mathlib.Core.Bool.{true, false};
-ghost use Prim.Native.Nat.{_<_, _≤_};
+ghost use Prim.Native.Nat.{_<_, _≤_, min};
 ghost use Rattle.diagram.specs.Store.{store};
 ghost use Rattle.diagram.specs.Call.{tableOf};
 ghost use Rattle.net.specs.Net.{lettersPlace, at as atPlace, netCircuit};
@@ -22,6 +22,9 @@ ghost use Rattle.attempt.specs.Places.{RootsFor, PartOf};
 pub const AFTER: usize = 26;
 
 pub const PENDING: usize = 52;
+
+// An attempt takes at most so many entries of working: one that fails there costs little beside the rule for each pattern.
+pub const MOST: usize = 4096;
 
 // What was stored, unless working had no room.
 pub struct Tried {
@@ -59,8 +62,8 @@ fn part(entries: &[u32; 92], from: usize) -> [u32; 26]
     out
 }
 
-// Node n by the functions of its group in the working table; where there is no room for them, nothing is stored.
-pub fn attempt(
+// Node n by the functions of its group in a working table; where it has no room for them, nothing is stored.
+fn attempt_in(
     net: &[u32],
     letter: &mut [u32],
     low: &mut [u32],
@@ -129,4 +132,50 @@ pub fn attempt(
         k,
     );
     Tried { done: true, put }
+}
+
+fn smaller(n: usize) -> usize
+    ensures { λ r. ⌜ r ≡ min n 4096 ⌝ }
+{
+    if n < MOST { n } else { MOST }
+}
+
+// Node n by the functions of its group in the first entries of working; where there is no room for them, nothing is stored.
+pub fn attempt(
+    net: &[u32],
+    letter: &mut [u32],
+    low: &mut [u32],
+    high: &mut [u32],
+    index: &mut [u32],
+    used: u32,
+    wletter: &mut [u32],
+    wlow: &mut [u32],
+    whigh: &mut [u32],
+    windex: &mut [u32],
+    time: u32,
+    all: bool,
+    n: u32,
+    entries: &[u32; 92],
+) -> Tried
+    requires { ⌜ Inner (now net) n × Open (atPlace (now net) lettersPlace) (now letter) (now low) (now high) (now index) used × Evaluable (atPlace (now net) lettersPlace) (tableOf (columns (now letter) (now low) (now high)) used) used (atPlace (now net) lettersPlace) (now entries) × Sized (now wletter) (now wlow) (now whigh) (now windex) ⌝ }
+    ensures { λ r. ⌜ (r .done ≡ true → Outcome (tableOf (columns (now (letter .entry)) (now (low .entry)) (now (high .entry))) used) (store (atPlace (now (net .entry)) lettersPlace) 0 (changeBy (netCircuit (now (net .entry))) time all n (atPlace (now (net .entry)) lettersPlace) (tableOf (columns (now (letter .entry)) (now (low .entry)) (now (high .entry))) used) (now (entries .entry))) (tableOf (columns (now (letter .entry)) (now (low .entry)) (now (high .entry))) used)) (now (letter .exit)) (now (low .exit)) (now (high .exit)) (now (index .exit)) (r .put)) × (r .done ≡ false → (now (letter .exit) ≡ now (letter .entry)) × (now (low .exit) ≡ now (low .entry)) × (now (high .exit) ≡ now (high .entry)) × (now (index .exit) ≡ now (index .entry))) ⌝ }
+{
+    let size = smaller(wletter.len());
+    let places = 2 * size;
+    attempt_in(
+        net,
+        letter,
+        low,
+        high,
+        index,
+        used,
+        &mut wletter[..size],
+        &mut wlow[..size],
+        &mut whigh[..size],
+        &mut windex[..places],
+        time,
+        all,
+        n,
+        entries,
+    )
 }

@@ -2,3 +2,4 @@ pub mod Numbers
 pub mod Entries
 pub mod Halved
 pub mod Step
+pub mod Remaining

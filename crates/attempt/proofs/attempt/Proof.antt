@@ -1,38 +1,44 @@
--- `attempt`: the parts of the entries are prepared, and the roots of the node settle its next change by them.
-use native.Mathlib.Omega.{arith}
+-- `attempt`: the first entries of working are lent.
+use mathlib.Core.Path.{sym}
+use Prim.Native.Nat.{_*_}
+use lib.Seq.{length-take-le}
 use borrow.Author.Needs.{needs}
-use mathlib.Core.Path.{refl, sym}
-use mathlib.Core.Bool.{true≢false}
-use Rattle.attempt.proofs.Trying.{node-small, group-small, before-used, after-used, pending-used, before-bits, after-bits, tried-rooted, tried-outcome}
+use Rattle.attempt.proofs.First.{letter-fits, low-fits, high-fits, index-fits, first-sized}
 use Rattle.attempt.proofs.attempt.Statement.{statement}
 use Rattle.attempt.proofs.attempt.Tie as tie
 
-shared-slice-read-k : tie.Need-shared-slice-read-k
-shared-slice-read-k c = search needs
+smaller-requires : tie.Need-smaller-requires
+smaller-requires c κs = search needs
 
-add-group : tie.Need-add-group
-add-group c = search needs
+mul-places : tie.Need-mul-places
+mul-places c = search needs
 
-mul-group : tie.Need-mul-group
-mul-group c = search needs
+slice-relend-prefix-attempt-in : tie.Need-slice-relend-prefix-attempt-in
+slice-relend-prefix-attempt-in c = search needs
 
-shared-slice-read-group : tie.Need-shared-slice-read-group
-shared-slice-read-group c = search needs
+slice-aggregate-attempt-in : tie.Need-slice-aggregate-attempt-in
+slice-aggregate-attempt-in c = sym (length-take-le (c .before .before .before .before .before .smaller .result) (c .before .before .before .before .before .before .before .before .before .before .before .before .before .before .before .args .wletter .now) (letter-fits (c .before .before .before .before .before .smaller .ensures) (c .before .before .before .before .before .before .before .before .before .before .before .before .before .before .before .pre .3)))
 
-cast-group : tie.Need-cast-group
-cast-group c = omega (arith, group-small (c .before .before .before .before .before .before .before .before .before .before .before .pre .0))
+slice-relend-prefix-attempt-in-2 : tie.Need-slice-relend-prefix-attempt-in-2
+slice-relend-prefix-attempt-in-2 c = search needs
 
-part-requires : tie.Need-part-requires
-part-requires c κs = search needs
+slice-aggregate-attempt-in-2 : tie.Need-slice-aggregate-attempt-in-2
+slice-aggregate-attempt-in-2 c = sym (length-take-le (c .before .before .before .before .before .before .smaller .result) (c .before .before .before .before .before .before .before .before .before .before .before .before .before .before .before .before .args .wlow .now) (low-fits (c .before .before .before .before .before .before .smaller .ensures) (c .before .before .before .before .before .before .before .before .before .before .before .before .before .before .before .before .pre .3)))
 
-part-requires-2 : tie.Need-part-requires-2
-part-requires-2 c κs = search needs
+slice-relend-prefix-attempt-in-3 : tie.Need-slice-relend-prefix-attempt-in-3
+slice-relend-prefix-attempt-in-3 c = search needs
 
-element-copy-out-prepare : tie.Need-element-copy-out-prepare
-element-copy-out-prepare c = search needs
+slice-aggregate-attempt-in-3 : tie.Need-slice-aggregate-attempt-in-3
+slice-aggregate-attempt-in-3 c = sym (length-take-le (c .before .before .before .before .before .before .before .smaller .result) (c .before .before .before .before .before .before .before .before .before .before .before .before .before .before .before .before .before .args .whigh .now) (high-fits (c .before .before .before .before .before .before .before .smaller .ensures) (c .before .before .before .before .before .before .before .before .before .before .before .before .before .before .before .before .before .pre .3)))
 
-prepare-requires : tie.Need-prepare-requires
-prepare-requires c κs = ((c .before .before .before .before .before .before .before .before .before .before .before .before .before .before .before .before .before .before .before .before .before .pre .0 .cell, c .before .before .before .before .before .before .before .before .before .before .before .before .before .before .before .before .before .before .before .before .before .pre .1 .legible, c .before .before .before .before .before .before .before .before .before .before .before .before .before .before .before .before .before .before .before .before .before .pre .3), (before-used (c .before .before .before .before .before .before .before .before .before .before .before .before .before .before .before .before .before .before .before .before .before .pre .0) (c .before .before .before .before .before .before .before .before .before .before .before .before .before .before .before .before .before .before .before .before .before .pre .1) (c .before .before .before .before .before .before .before .before .before .before .before .before .before .before .before .before .before .before .before .before .before .pre .2) (c .before .before .part .ensures) (c .before .part2 .ensures), after-used (c .before .before .before .before .before .before .before .before .before .before .before .before .before .before .before .before .before .before .before .before .before .pre .0) (c .before .before .before .before .before .before .before .before .before .before .before .before .before .before .before .before .before .before .before .before .before .pre .1) (c .before .before .before .before .before .before .before .before .before .before .before .before .before .before .before .before .before .before .before .before .before .pre .2) (c .before .before .part .ensures) (c .before .part2 .ensures), pending-used (c .before .before .before .before .before .before .before .before .before .before .before .before .before .before .before .before .before .before .before .before .before .pre .0) (c .before .before .before .before .before .before .before .before .before .before .before .before .before .before .before .before .before .before .before .before .before .pre .1) (c .before .before .before .before .before .before .before .before .before .before .before .before .before .before .before .before .before .before .before .before .before .pre .2) (c .before .before .part .ensures) (c .before .part2 .ensures), before-bits (c .before .before .before .before .before .before .before .before .before .before .before .before .before .before .before .before .before .before .before .before .before .pre .0) (c .before .before .before .before .before .before .before .before .before .before .before .before .before .before .before .before .before .before .before .before .before .pre .1) (c .before .before .before .before .before .before .before .before .before .before .before .before .before .before .before .before .before .before .before .before .before .pre .2) (c .before .before .part .ensures) (c .before .part2 .ensures), after-bits (c .before .before .before .before .before .before .before .before .before .before .before .before .before .before .before .before .before .before .before .before .before .pre .0) (c .before .before .before .before .before .before .before .before .before .before .before .before .before .before .before .before .before .before .before .before .before .pre .1) (c .before .before .before .before .before .before .before .before .before .before .before .before .before .before .before .before .before .before .before .before .before .pre .2) (c .before .before .part .ensures) (c .before .part2 .ensures)))
+slice-relend-prefix-attempt-in-4 : tie.Need-slice-relend-prefix-attempt-in-4
+slice-relend-prefix-attempt-in-4 c = search needs
+
+slice-aggregate-attempt-in-4 : tie.Need-slice-aggregate-attempt-in-4
+slice-aggregate-attempt-in-4 c = sym (length-take-le (2 * c .before .before .before .before .before .before .before .before .smaller .result) (c .before .before .before .before .before .before .before .before .before .before .before .before .before .before .before .before .before .before .args .windex .now) (index-fits (c .before .before .before .before .before .before .before .before .smaller .ensures) (c .before .before .before .before .before .before .before .before .before .before .before .before .before .before .before .before .before .before .pre .3)))
+
+attempt-in-requires : tie.Need-attempt-in-requires
+attempt-in-requires c κs = let z = c .before .before .before .before .before .before .before .before .before .before .before .before .before .before .before .before .before .before in (z .pre .0, z .pre .1, z .pre .2, first-sized (c .before .before .before .before .before .before .before .before .smaller .ensures) (z .pre .3))
 
 same-length : tie.Need-same-length
 same-length c = search needs
@@ -55,55 +61,27 @@ same-length-6 c = search needs
 same-length-7 : tie.Need-same-length-7
 same-length-7 c = search needs
 
-returns : tie.Need-returns
-returns c = ((λ e. absurd (true≢false (sym e))), λ e. (refl, refl, refl, refl))
-
-roots-for-requires : tie.Need-roots-for-requires
-roots-for-requires c κs = node-small (c .before .before .before .before .before .before .before .before .before .before .before .before .before .before .before .before .before .before .before .before .before .before .before .before .before .before .before .before .before .before .before .before .pre .0)
-
-descend-requires : tie.Need-descend-requires
-descend-requires c κs = (tried-rooted (c .before .before .before .before .before .before .before .before .before .before .before .before .before .before .before .before .before .before .before .before .before .before .before .before .before .before .before .before .before .before .before .before .before .before .before .before .before .before .before .before .before .pre .0) (c .before .before .before .before .before .before .before .before .before .before .before .before .before .before .before .before .before .before .before .before .before .before .before .before .before .before .before .before .before .before .before .before .before .before .before .before .before .before .before .before .before .pre .1) (c .before .before .before .before .before .before .before .before .before .before .before .before .before .before .before .before .before .before .before .before .before .before .before .before .before .before .before .before .before .before .before .before .before .before .before .before .before .before .before .before .before .pre .2) (c .before .before .before .before .before .before .before .before .before .before .before .before .before .before .before .before .before .before .before .before .before .before .part .ensures) (c .before .before .before .before .before .before .before .before .before .before .before .before .before .before .before .before .before .before .before .before .before .part2 .ensures) (c .before .before .before .before .before .before .before .before .before .before .before .before .before .before .before .before .before .before .before .prepare .ensures (c .before .before .before .before .before .before .before .before .before .before .if1 .left)) (c .before .before .before .before .before .before .before .before .roots-for .ensures), c .before .before .before .before .before .before .before .before .before .before .before .before .before .before .before .before .before .before .before .before .before .before .before .before .before .before .before .before .before .before .before .before .before .before .before .before .before .before .before .before .before .pre .1)
-
 same-length-8 : tie.Need-same-length-8
 same-length-8 c = search needs
 
-same-length-9 : tie.Need-same-length-9
-same-length-9 c = search needs
-
-same-length-10 : tie.Need-same-length-10
-same-length-10 c = search needs
-
-same-length-11 : tie.Need-same-length-11
-same-length-11 c = search needs
-
-same-length-12 : tie.Need-same-length-12
-same-length-12 c = search needs
-
-same-length-13 : tie.Need-same-length-13
-same-length-13 c = search needs
-
-same-length-14 : tie.Need-same-length-14
-same-length-14 c = search needs
-
-same-length-15 : tie.Need-same-length-15
-same-length-15 c = search needs
-
-returns-2 : tie.Need-returns-2
-returns-2 c = ((λ e. tried-outcome (c .before .before .before .before .before .before .before .before .before .before .before .before .before .before .before .before .before .before .before .before .before .before .before .before .before .before .before .before .before .before .before .before .before .before .before .before .before .before .before .before .before .before .before .before .before .before .before .before .before .before .pre .0) (c .before .before .before .before .before .before .before .before .before .before .before .before .before .before .before .before .before .before .before .before .before .before .before .before .before .before .before .before .before .before .before .before .before .before .before .before .before .before .before .before .before .before .before .before .before .before .before .before .before .before .pre .1) (c .before .before .before .before .before .before .before .before .before .before .before .before .before .before .before .before .before .before .before .before .before .before .before .before .before .before .before .before .before .before .before .before .before .before .before .before .before .before .before .before .before .before .before .before .before .before .before .before .before .before .pre .2) (c .before .before .before .before .before .before .before .before .before .before .before .before .before .before .before .before .before .before .before .before .before .before .before .before .before .before .before .before .before .before .before .part .ensures) (c .before .before .before .before .before .before .before .before .before .before .before .before .before .before .before .before .before .before .before .before .before .before .before .before .before .before .before .before .before .before .part2 .ensures) (c .before .before .before .before .before .before .before .before .before .before .before .before .before .before .before .before .before .before .before .before .before .before .before .before .before .before .before .before .prepare .ensures (c .before .before .before .before .before .before .before .before .before .before .before .before .before .before .before .before .before .before .before .if1 .left)) (c .before .before .before .before .before .before .before .before .before .before .before .before .before .before .before .before .before .roots-for .ensures) (c .before .before .before .before .before .before .before .before .before .before .before .before .before .before .before .before .before .before .before .before .before .before .before .before .before .before .before .before .before .before .before .before .before .before .before .before .before .before .before .before .before .before .before .before .before .before .before .before .before .before .args .time) (c .before .before .before .before .before .before .before .before .descend .ensures)), λ e. absurd (true≢false e))
+returns : tie.Need-returns
+returns c = search needs
 
 pub attempt-spec : {M : Type 1} → statement M
 attempt-spec =
     tie.close
     (tie.spec
-    shared-slice-read-k
-    add-group
-    mul-group
-    shared-slice-read-group
-    cast-group
-    part-requires
-    part-requires-2
-    element-copy-out-prepare
-    prepare-requires
+    smaller-requires
+    mul-places
+    slice-relend-prefix-attempt-in
+    slice-aggregate-attempt-in
+    slice-relend-prefix-attempt-in-2
+    slice-aggregate-attempt-in-2
+    slice-relend-prefix-attempt-in-3
+    slice-aggregate-attempt-in-3
+    slice-relend-prefix-attempt-in-4
+    slice-aggregate-attempt-in-4
+    attempt-in-requires
     same-length
     same-length-2
     same-length-3
@@ -111,15 +89,5 @@ attempt-spec =
     same-length-5
     same-length-6
     same-length-7
-    returns
-    roots-for-requires
-    descend-requires
     same-length-8
-    same-length-9
-    same-length-10
-    same-length-11
-    same-length-12
-    same-length-13
-    same-length-14
-    same-length-15
-    returns-2)
+    returns)
