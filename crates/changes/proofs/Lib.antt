@@ -3,3 +3,5 @@ pub mod Single
 pub mod Rooting
 pub mod Evaluating
 pub mod Preparing
+pub mod Stirring
+pub mod Resting

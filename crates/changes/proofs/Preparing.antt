@@ -35,7 +35,7 @@ use Rattle.changes.proofs.Rooting.{roots-for}
 use Rattle.changes.proofs.Evaluating.{StepEntries}
 
 -- functions that agree at every node record are stored alike
-nodes-stored : (k : ℕ) (f g : ℕ → ℕ → ℕ) (m : ℕ) (t : Table) → ((n p : ℕ) → firstNodeNumber ≤ n → n < firstNodeNumber + m → p < patterns k → f n p ≡ g n p)
+pub nodes-stored : (k : ℕ) (f g : ℕ → ℕ → ℕ) (m : ℕ) (t : Table) → ((n p : ℕ) → firstNodeNumber ≤ n → n < firstNodeNumber + m → p < patterns k → f n p ≡ g n p)
     → storeAll k (map f (upFrom m firstNodeNumber)) t ≡ storeAll k (map g (upFrom m firstNodeNumber)) t
 nodes-stored k f g m t same =
     let ns : List ℕ = upFrom m firstNodeNumber in
@@ -47,7 +47,7 @@ nodes-stored k f g m t same =
     ∙ same (getD ns i 0) p (omega arith) (omega (arith, up-length m firstNodeNumber)) h
     ∙ ap (λ (u : ℕ → ℕ). u p) (sym (map-at g ns 0 noFunction i j)))
 
-same-cond : (b : Bool) (x y z : ℕ) → (b ≡ true → x ≡ y) → cond b x z ≡ cond b y z
+pub same-cond : (b : Bool) (x y z : ℕ) → (b ≡ true → x ≡ y) → cond b x z ≡ cond b y z
 same-cond true x y z e = e refl
 same-cond false x y z e = refl
 

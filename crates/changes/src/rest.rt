@@ -1,0 +1,154 @@
+// Next changes where nothing was stirred: the pending ones with T taken out.
+use crate::NEVER;
+use descent::settle::pending_after;
+use functions::numbers::TERMINAL;
+use functions::step::join;
+use net::inner::is_inner;
+use table::Put;
+use values::Many;
+use values::due::meets;
+ghost use mathlib.Core.List.{map};
+ghost use Prim.Native.Nat.{_<_};
+ghost use Rattle.diagram.specs.Store.{store};
+ghost use Rattle.diagram.specs.Call.{tableOf};
+ghost use Rattle.table.specs.Holds.{columns, Outcome};
+ghost use Rattle.functions.specs.Open.{Open, Operand};
+ghost use Rattle.rules.specs.State.{nodeNumbers};
+ghost use Rattle.rules.specs.Run.{storeAll};
+ghost use Rattle.net.specs.Net.{lettersPlace, at as atPlace, netCircuit};
+ghost use Rattle.walk.specs.Ready.{Net, Noded};
+ghost use Rattle.values.specs.All.{OutcomeAll};
+ghost use Rattle.changes.specs.Changes.{PendingEntries};
+ghost use Rattle.changes.specs.Rest.{pastOf, restWith, restOf};
+
+// Entry `e`, whose letters are among the last `left` of the k, with T taken out.
+fn past(
+    letter: &mut [u32],
+    low: &mut [u32],
+    high: &mut [u32],
+    index: &mut [u32],
+    used: u32,
+    k: u32,
+    time: u32,
+    e: u32,
+    left: u32,
+) -> Put
+    requires { ⌜ Open k (now letter) (now low) (now high) (now index) used × Operand k (tableOf (columns (now letter) (now low) (now high)) used) used left e ⌝ }
+    ensures { λ r. ⌜ Outcome (tableOf (columns (now (letter .entry)) (now (low .entry)) (now (high .entry))) used) (store k 0 (pastOf time k (tableOf (columns (now (letter .entry)) (now (low .entry)) (now (high .entry))) used) e) (tableOf (columns (now (letter .entry)) (now (low .entry)) (now (high .entry))) used)) (now (letter .exit)) (now (low .exit)) (now (high .exit)) (now (index .exit)) r ⌝ }
+{
+    let i = e as usize;
+    let m = letter[i];
+    let a = low[i];
+    let b = high[i];
+    if m == TERMINAL {
+        let v = pending_after(time, a);
+        return table::add(letter, low, high, index, used, TERMINAL, v, 0);
+    }
+    let p = past(letter, low, high, index, used, k, time, a, left - 1);
+    if p.full {
+        return p;
+    }
+    let q = past(letter, low, high, index, p.used, k, time, b, left - 1);
+    if q.full {
+        return q;
+    }
+    join(letter, low, high, index, q.used, m, p.entry, q.entry)
+}
+
+// Entry `e` with T taken out: itself where it has T at no pattern.
+fn passed(
+    letter: &mut [u32],
+    low: &mut [u32],
+    high: &mut [u32],
+    index: &mut [u32],
+    used: u32,
+    k: u32,
+    time: u32,
+    e: u32,
+) -> Put
+    requires { ⌜ Open k (now letter) (now low) (now high) (now index) used × (e < used) ⌝ }
+    ensures { λ r. ⌜ Outcome (tableOf (columns (now (letter .entry)) (now (low .entry)) (now (high .entry))) used) (store k 0 (pastOf time k (tableOf (columns (now (letter .entry)) (now (low .entry)) (now (high .entry))) used) e) (tableOf (columns (now (letter .entry)) (now (low .entry)) (now (high .entry))) used)) (now (letter .exit)) (now (low .exit)) (now (high .exit)) (now (index .exit)) r ⌝ }
+{
+    if !meets(letter, low, high, used, k, e, time) {
+        return Put {
+            full: false,
+            entry: e,
+            used,
+        };
+    }
+    past(letter, low, high, index, used, k, time, e, k)
+}
+
+// The next change of node n by pending change `e`.
+fn at_rest(
+    net: &[u32],
+    letter: &mut [u32],
+    low: &mut [u32],
+    high: &mut [u32],
+    index: &mut [u32],
+    used: u32,
+    time: u32,
+    n: u32,
+    e: u32,
+) -> Put
+    requires { ⌜ Net (now net) × Noded (now net) n × Open (atPlace (now net) lettersPlace) (now letter) (now low) (now high) (now index) used × (e < used) ⌝ }
+    ensures { λ r. ⌜ Outcome (tableOf (columns (now (letter .entry)) (now (low .entry)) (now (high .entry))) used) (store (atPlace (now (net .entry)) lettersPlace) 0 (restWith (netCircuit (now (net .entry))) time (atPlace (now (net .entry)) lettersPlace) (tableOf (columns (now (letter .entry)) (now (low .entry)) (now (high .entry))) used) e n) (tableOf (columns (now (letter .entry)) (now (low .entry)) (now (high .entry))) used)) (now (letter .exit)) (now (low .exit)) (now (high .exit)) (now (index .exit)) r ⌝ }
+{
+    if !is_inner(net, n) {
+        return Put {
+            full: false,
+            entry: NEVER,
+            used,
+        };
+    }
+    let k = net[net::LETTERS];
+    passed(letter, low, high, index, used, k, time, e)
+}
+
+// All next changes, in node order.
+pub fn all_at_rest(
+    net: &[u32],
+    letter: &mut [u32],
+    low: &mut [u32],
+    high: &mut [u32],
+    index: &mut [u32],
+    used: u32,
+    time: u32,
+    pending: [u32; 26],
+) -> Many
+    requires { ⌜ Net (now net) × Open (atPlace (now net) lettersPlace) (now letter) (now low) (now high) (now index) used × PendingEntries used pending ⌝ }
+    ensures { λ r. ⌜ OutcomeAll (tableOf (columns (now (letter .entry)) (now (low .entry)) (now (high .entry))) used) (storeAll (atPlace (now (net .entry)) lettersPlace) (map (restOf (netCircuit (now (net .entry))) time (atPlace (now (net .entry)) lettersPlace) (tableOf (columns (now (letter .entry)) (now (low .entry)) (now (high .entry))) used) pending) (nodeNumbers (netCircuit (now (net .entry))))) (tableOf (columns (now (letter .entry)) (now (low .entry)) (now (high .entry))) used)) (now (letter .exit)) (now (low .exit)) (now (high .exit)) (now (index .exit)) (r .full) (r .used) (r .entries) ⌝ }
+{
+    let count = net[net::NODES] as usize;
+    let mut out = [0u32; 24];
+    let mut now = used;
+    let mut i = 0;
+    while i < count {
+        let p = at_rest(
+            net,
+            letter,
+            low,
+            high,
+            index,
+            now,
+            time,
+            i as u32 + 2,
+            pending[i + 2],
+        );
+        if p.full {
+            return Many {
+                full: true,
+                used: now,
+                entries: out,
+            };
+        }
+        out[i] = p.entry;
+        now = p.used;
+        i += 1;
+    }
+    Many {
+        full: false,
+        used: now,
+        entries: out,
+    }
+}
