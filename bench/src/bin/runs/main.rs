@@ -154,7 +154,7 @@ fn main() {
         "walked ms",
         "ratio"
     );
-    for (first, second) in [(5, 3), (7, 3), (8, 4)] {
+    for (first, second) in [(4, 4), (5, 5), (6, 6)] {
         line(
             "carry chain, two additions",
             &designs::carry_additions(first, second, 30),
