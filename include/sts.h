@@ -477,6 +477,41 @@ uint32_t sts_step(const uint8_t *file, size_t file_length,
                   uint32_t *work_high, size_t work_high_length);
 
 /*
+ * The record of a run as a struct, for a caller that holds it so: the numbers of
+ * the record in their order. values[n - 2] and changes[n - 2] are the entries of
+ * node n.
+ */
+struct sts_run {
+    uint32_t time;
+    uint32_t used;
+    uint32_t values[24];
+    uint32_t changes[24];
+};
+
+/*
+ * Takes one step, as sts_step does, on a record in a struct.
+ *
+ *   file, file_length                 the file's bytes; any length
+ *   letter, low, high                 the table's columns, which may be added to
+ *   run                               the record of the run, before and after: not
+ *                                     null, and apart from the arrays. Places for
+ *                                     nodes that the cell does not have are not
+ *                                     looked at, and are 0 after an answer; after a
+ *                                     refusal the struct is as it was
+ *   work_letter, work_low, work_high  the working columns
+ *
+ * Returns what sts_step returns.
+ */
+uint32_t sts_advance(const uint8_t *file, size_t file_length,
+                     uint32_t *letter, size_t letter_length,
+                     uint32_t *low, size_t low_length,
+                     uint32_t *high, size_t high_length,
+                     struct sts_run *run,
+                     uint32_t *work_letter, size_t work_letter_length,
+                     uint32_t *work_low, size_t work_low_length,
+                     uint32_t *work_high, size_t work_high_length);
+
+/*
  * Takes every step that is not later than a time, and no other. Afterwards the
  * record has the time of the last step taken, or its own where there was none: it
  * is not moved to until. A run that is finished is answered without a step. Where

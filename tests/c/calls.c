@@ -586,7 +586,7 @@ static int working_is(uint8_t byte)
 }
 
 /* The calls that start or advance a run, numbered. */
-enum { START, STEP, RUN };
+enum { START, STEP, ADVANCE, RUN };
 
 /* What such a call is given. */
 struct task {
@@ -623,6 +623,23 @@ static struct task task_of(int call, uint32_t number, size_t length)
     working[0], (k)->work_lengths[0], working[1], (k)->work_lengths[1], working[2],            \
         (k)->work_lengths[2]
 
+/* A step on the record in a struct: the numbers of the record in their order. */
+static uint32_t do_advance(const struct task *k, struct run *r)
+{
+    struct table *t = &r->table;
+    struct sts_run run;
+    uint32_t number;
+
+    memcpy(&run, r->record, sizeof run);
+    number = sts_advance(k->file, k->file_length, TABLE(t, k), &run, WORKING(k));
+    memset(r->record, SOILED, STS_RECORD_LENGTH * sizeof *r->record);
+    r->record[STS_RUN_TIME] = run.time;
+    r->record[STS_RUN_USED] = run.used;
+    memcpy(r->record + STS_RUN_VALUES, run.values, sizeof run.values);
+    memcpy(r->record + STS_RUN_CHANGES, run.changes, sizeof run.changes);
+    return number;
+}
+
 static uint32_t do_task(const struct task *k, struct run *r)
 {
     struct table *t = &r->table;
@@ -635,6 +652,8 @@ static uint32_t do_task(const struct task *k, struct run *r)
     case STEP:
         return sts_step(k->file, k->file_length, TABLE(t, k), r->record, k->record_length,
                         WORKING(k));
+    case ADVANCE:
+        return do_advance(k, r);
     default:
         return sts_run(k->file, k->file_length, k->number, TABLE(t, k), r->record,
                        k->record_length, WORKING(k));
@@ -732,6 +751,30 @@ static void check_steps(void)
               r.table.high[JUST_ENOUGH] == 0xababababu,
           "a run writes nothing past its table");
     check_task_refused(&step, &r, STS_FINISHED, "sts_step refuses a finished run with 10");
+}
+
+static void check_advances(void)
+{
+    const struct task advance = task_of(ADVANCE, 0, JUST_ENOUGH);
+    struct task k;
+    struct run r;
+    int i;
+
+    check(sizeof(struct sts_run) == STS_RECORD_LENGTH * sizeof(uint32_t),
+          "the struct of a record has its numbers and nothing else");
+    make_moment(&r, JUST_ENOUGH, 0);
+    for (i = 1; i <= 3; i++) {
+        k = advance;
+        k.lengths[1]--;
+        check_task_refused(&k, &r, STS_BUFFER, "sts_advance refuses unequal columns with 8");
+        k = advance;
+        k.file_length--;
+        check_task_refused(&k, &r, STS_LENGTH, "sts_advance refuses a file that is cut with 1");
+        check_task(&advance, &r, i, "sts_advance steps the inverter");
+    }
+    check_task_refused(&advance, &r, STS_FINISHED, "sts_advance refuses a finished run with 10");
+    r.record[STS_RUN_TIME] = STS_NEVER;
+    check_task_refused(&advance, &r, STS_UNSOUND, "sts_advance refuses an unsound record with 7");
 }
 
 static void check_runs(void)
@@ -989,6 +1032,7 @@ int main(void)
     check_full_tables();
     check_longest();
     check_steps();
+    check_advances();
     check_runs();
     check_full_runs();
     check_earlier();

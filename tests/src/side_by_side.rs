@@ -74,6 +74,23 @@ impl Memory {
         }
     }
 
+    /// Hands the table, the record and working over.
+    fn give(&mut self, lent: &mut Lent) {
+        let sts::Lent {
+            table: [letter, low, high],
+            record,
+            working: [work_letter, work_low, work_high],
+            ..
+        } = self.lend();
+        lent.table.letter.copy_from_slice(letter);
+        lent.table.low.copy_from_slice(low);
+        lent.table.high.copy_from_slice(high);
+        lent.record.copy_from_slice(record);
+        lent.working.letter.copy_from_slice(work_letter);
+        lent.working.low.copy_from_slice(work_low);
+        lent.working.high.copy_from_slice(work_high);
+    }
+
     /// Where the memory is not as expected.
     fn difference(&self, expected: &Memory) -> Result<(), String> {
         if self.numbers == expected.numbers {
@@ -110,4 +127,53 @@ pub fn call(call: Call, file: &[u8], lent: &mut Lent) -> Result<Result<(), Refus
     }
     memory.difference(&Memory::of(lent, margin))?;
     Ok(answered)
+}
+
+/// Makes a step on the record in its column and on the same record in a struct, and
+/// gives the number of both. `lent` then is what it is afterwards. An error tells how
+/// the two differ.
+pub fn advance(file: &[u8], lent: &mut Lent) -> Result<u32, String> {
+    let margin = 0xfeed_0000 ^ file.len() as u32;
+    let mut stepped = Memory::of(lent, margin);
+    let number = sts::call_on_run(Call::Step, file, stepped.lend());
+    let mut advanced = Memory::of(lent, margin);
+    // Numbers around the struct, which the call may not touch.
+    let mut held = Held {
+        before: [margin; MARGIN],
+        run: sts::Run::of(&lent.record),
+        after: [margin; MARGIN],
+    };
+    let sts::Lent { table, working, .. } = advanced.lend();
+    let in_place = sts::advance(file, table, &mut held.run, working);
+    if in_place != number {
+        return Err(format!(
+            "sts_advance answered {in_place}, sts_step {number}"
+        ));
+    }
+    let sts::Lent { record, .. } = stepped.lend();
+    if held.run != sts::Run::of(record) {
+        return Err(format!(
+            "sts_advance left {:?}, sts_step {record:?}",
+            held.run
+        ));
+    }
+    if [held.before, held.after] != [[margin; MARGIN]; 2] {
+        return Err("sts_advance wrote around its struct".into());
+    }
+    // The column of the second memory was not lent, and is as it was.
+    let sts::Lent { record: column, .. } = advanced.lend();
+    if column != lent.record {
+        return Err("sts_advance wrote into a column that it was not lent".into());
+    }
+    column.copy_from_slice(record);
+    advanced.difference(&stepped)?;
+    stepped.give(lent);
+    Ok(number)
+}
+
+#[repr(C)]
+struct Held {
+    before: [u32; MARGIN],
+    run: sts::Run,
+    after: [u32; MARGIN],
 }

@@ -86,6 +86,24 @@ mod raw {
     }
 
     extern "C" {
+        pub fn sts_advance(
+            file: *const u8,
+            file_length: usize,
+            letter: *mut u32,
+            letter_length: usize,
+            low: *mut u32,
+            low_length: usize,
+            high: *mut u32,
+            high_length: usize,
+            run: *mut super::Run,
+            work_letter: *mut u32,
+            work_letter_length: usize,
+            work_low: *mut u32,
+            work_low_length: usize,
+            work_high: *mut u32,
+            work_high_length: usize,
+        ) -> u32;
+
         pub fn sts_ask(
             file: *const u8,
             file_length: usize,
@@ -243,6 +261,64 @@ pub fn call_on_run(call: Call, file: &[u8], lent: Lent) -> u32 {
                 answer.len(),
             )
         },
+    }
+}
+
+/// The record of a run as a struct.
+#[derive(Clone, Debug, PartialEq)]
+#[repr(C)]
+pub struct Run {
+    pub time: u32,
+    pub used: u32,
+    pub values: [u32; 24],
+    pub changes: [u32; 24],
+}
+
+impl Run {
+    /// The record in a column.
+    pub fn of(record: &[u32]) -> Run {
+        let entries = |from: usize| {
+            let places = &record[from..from + 24];
+            places.try_into().expect("a record has 24 places for nodes")
+        };
+        Run {
+            time: record[0],
+            used: record[1],
+            values: entries(2),
+            changes: entries(26),
+        }
+    }
+}
+
+/// Takes one step on a record in a struct.
+pub fn advance(
+    file: &[u8],
+    table: [&mut [u32]; 3],
+    run: &mut Run,
+    working: [&mut [u32]; 3],
+) -> u32 {
+    let [letter, low, high] = table;
+    let [work_letter, work_low, work_high] = working;
+    // SAFETY: the pointers are valid for their lengths, the struct is laid out as in
+    // C, and the borrows do not overlap.
+    unsafe {
+        raw::sts_advance(
+            file.as_ptr(),
+            file.len(),
+            letter.as_mut_ptr(),
+            letter.len(),
+            low.as_mut_ptr(),
+            low.len(),
+            high.as_mut_ptr(),
+            high.len(),
+            run,
+            work_letter.as_mut_ptr(),
+            work_letter.len(),
+            work_low.as_mut_ptr(),
+            work_low.len(),
+            work_high.as_mut_ptr(),
+            work_high.len(),
+        )
     }
 }
 

@@ -3,3 +3,4 @@ pub mod ReadCell
 pub mod Handed
 pub mod Column
 pub mod Course
+pub mod Back

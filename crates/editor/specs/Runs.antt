@@ -64,6 +64,13 @@ pub record TaskDone (table table′ : Columns) (column column′ : List ℕ) (wo
   pub table-is : table′ ≡ tableAfter table answer
   pub working-is : working′ ≡ workingAfter working answer
 
+-- a step on a record behind a reference: the number, the record, and each lent column afterwards
+pub record AdvanceDone (table table′ : Columns) (r r′ : Run) (working working′ : Columns) (answer : Answer Moment) (number : ℕ) : Type 0 where
+  pub number-is : number ≡ answerNumber answer
+  pub run-is : r′ ≡ runAfter r answer
+  pub table-is : table′ ≡ tableAfter table answer
+  pub working-is : working′ ≡ workingAfter working answer
+
 -- the run question: 8 where the record or the answer has another length
 unfoldable pub askAnswer : List ℕ → Columns → List ℕ → ℕ → ℕ → List ℕ → Answer Wire
 askAnswer file table column n p told =
