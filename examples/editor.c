@@ -49,7 +49,7 @@ struct moment {
 };
 
 /* A cell and its run: what the editor keeps of it. */
-struct session {
+struct work {
     uint8_t file[FILE_ROOM];
     size_t file_length;
     uint32_t header[STS_HEADER_LENGTH];
@@ -104,7 +104,7 @@ static void free_columns(struct columns *columns)
 }
 
 /* Reads a file, or its first bytes. Gives 0 if it could be read. */
-static int read_file(struct session *session, const char *name)
+static int read_file(struct work *work, const char *name)
 {
     FILE *stream = fopen(name, "rb");
     int failed;
@@ -113,7 +113,7 @@ static int read_file(struct session *session, const char *name)
         perror(name);
         return 1;
     }
-    session->file_length = fread(session->file, 1, FILE_ROOM, stream);
+    work->file_length = fread(work->file, 1, FILE_ROOM, stream);
     failed = ferror(stream);
     if (failed)
         perror(name);
@@ -122,34 +122,34 @@ static int read_file(struct session *session, const char *name)
 }
 
 /* Makes room for one more moment; the record in it is that of the last one. */
-static struct moment *new_moment(struct session *session)
+static struct moment *new_moment(struct work *work)
 {
-    size_t count = session->moments_count;
+    size_t count = work->moments_count;
 
-    if (count == session->moments_room) {
+    if (count == work->moments_room) {
         size_t room = count == 0 ? 64 : 2 * count;
         struct moment *moments = NULL;
 
         if (room <= SIZE_MAX / sizeof *moments)
-            moments = realloc(session->moments, room * sizeof *moments);
+            moments = realloc(work->moments, room * sizeof *moments);
         if (moments == NULL)
             no_memory();
-        session->moments = moments;
-        session->moments_room = room;
+        work->moments = moments;
+        work->moments_room = room;
     }
     if (count == 0)
-        memset(&session->moments[count], 0, sizeof session->moments[count]);
+        memset(&work->moments[count], 0, sizeof work->moments[count]);
     else
-        session->moments[count] = session->moments[count - 1];
-    return &session->moments[count];
+        work->moments[count] = work->moments[count - 1];
+    return &work->moments[count];
 }
 
 /* Starts a run of the cell in a fresh table. Gives the call's answer. */
-static uint32_t start(struct session *session)
+static uint32_t start(struct work *work)
 {
-    struct columns *table = &session->table;
-    struct columns *working = &session->working;
-    struct moment *moment = new_moment(session);
+    struct columns *table = &work->table;
+    struct columns *working = &work->working;
+    struct moment *moment = new_moment(work);
     uint32_t answer;
 
     answer = sts_fresh(table->letter, table->length,
@@ -157,7 +157,7 @@ static uint32_t start(struct session *session)
                        table->high, table->length);
     if (answer != STS_OK)
         return answer;
-    answer = sts_start(session->file, session->file_length,
+    answer = sts_start(work->file, work->file_length,
                        table->letter, table->length,
                        table->low, table->length,
                        table->high, table->length,
@@ -167,19 +167,19 @@ static uint32_t start(struct session *session)
                        working->low, working->length,
                        working->high, working->length);
     if (answer == STS_OK)
-        session->moments_count++;
+        work->moments_count++;
     return answer;
 }
 
 /* Takes one step. Gives the call's answer. */
-static uint32_t step(struct session *session)
+static uint32_t step(struct work *work)
 {
-    struct columns *table = &session->table;
-    struct columns *working = &session->working;
-    struct moment *moment = new_moment(session);
+    struct columns *table = &work->table;
+    struct columns *working = &work->working;
+    struct moment *moment = new_moment(work);
     uint32_t answer;
 
-    answer = sts_step(session->file, session->file_length,
+    answer = sts_step(work->file, work->file_length,
                       table->letter, table->length,
                       table->low, table->length,
                       table->high, table->length,
@@ -188,53 +188,53 @@ static uint32_t step(struct session *session)
                       working->low, working->length,
                       working->high, working->length);
     if (answer == STS_OK)
-        session->moments_count++;
+        work->moments_count++;
     return answer;
 }
 
 /* Nothing is ever removed from the table: with the table's present used count all
    earlier records of the run can be read. */
-static void renew_moments(struct session *session)
+static void renew_moments(struct work *work)
 {
-    size_t last = session->moments_count - 1;
-    uint32_t used = session->moments[last].record[STS_RUN_USED];
+    size_t last = work->moments_count - 1;
+    uint32_t used = work->moments[last].record[STS_RUN_USED];
     size_t i;
 
     for (i = 0; i < last; i++)
-        session->moments[i].record[STS_RUN_USED] = used;
+        work->moments[i].record[STS_RUN_USED] = used;
 }
 
 /* Prints the head of a table: the first columns' names, then the nodes' numbers. */
-static void print_head(const struct session *session, const char *names)
+static void print_head(const struct work *work, const char *names)
 {
     uint32_t node;
 
     printf("%s", names);
-    for (node = 0; node < session->header[STS_NODES]; node++)
+    for (node = 0; node < work->header[STS_NODES]; node++)
         printf(" %6" PRIu32, FIRST_NODE + node);
     printf("\n");
 }
 
 /* Prints how many patterns hold each node high at each moment. */
-static uint32_t print_counts(const struct session *session)
+static uint32_t print_counts(const struct work *work)
 {
-    const struct columns *table = &session->table;
-    uint32_t letters = session->header[STS_LETTERS];
+    const struct columns *table = &work->table;
+    uint32_t letters = work->header[STS_LETTERS];
     uint32_t counts[STS_RUN_CHANGES - STS_RUN_VALUES] = {0};
     size_t i;
 
     printf("patterns that are high, of %" PRIu32 "\n", UINT32_C(1) << letters);
-    print_head(session, "     ps");
-    for (i = 0; i < session->moments_count; i++) {
-        const uint32_t *record = session->moments[i].record;
+    print_head(work, "     ps");
+    for (i = 0; i < work->moments_count; i++) {
+        const uint32_t *record = work->moments[i].record;
         uint32_t node;
 
-        for (node = 0; node < session->header[STS_NODES]; node++) {
+        for (node = 0; node < work->header[STS_NODES]; node++) {
             uint32_t entry = record[STS_RUN_VALUES + node];
             uint32_t answer;
 
             /* Two functions are equal exactly if their entries are. */
-            if (i > 0 && entry == session->moments[i - 1].record[STS_RUN_VALUES + node])
+            if (i > 0 && entry == work->moments[i - 1].record[STS_RUN_VALUES + node])
                 continue;
             answer = sts_count(letters,
                                table->letter, table->length,
@@ -245,7 +245,7 @@ static uint32_t print_counts(const struct session *session)
                 return answer;
         }
         printf("%7" PRIu32, record[STS_RUN_TIME]);
-        for (node = 0; node < session->header[STS_NODES]; node++)
+        for (node = 0; node < work->header[STS_NODES]; node++)
             printf(" %6" PRIu32, counts[node]);
         printf("\n");
     }
@@ -253,18 +253,18 @@ static uint32_t print_counts(const struct session *session)
 }
 
 /* Asks for the values of all nodes at a pattern, and for the earliest next change. */
-static uint32_t ask(const struct session *session, const uint32_t *record, uint32_t pattern,
+static uint32_t ask(const struct work *work, const uint32_t *record, uint32_t pattern,
                     uint32_t *values, uint32_t *change)
 {
-    const struct columns *table = &session->table;
+    const struct columns *table = &work->table;
     uint32_t node;
 
     *change = STS_NEVER;
-    for (node = 0; node < session->header[STS_NODES]; node++) {
+    for (node = 0; node < work->header[STS_NODES]; node++) {
         uint32_t told[STS_ANSWER_LENGTH];
         uint32_t answer;
 
-        answer = sts_ask(session->file, session->file_length,
+        answer = sts_ask(work->file, work->file_length,
                          table->letter, table->length,
                          table->low, table->length,
                          table->high, table->length,
@@ -281,25 +281,25 @@ static uint32_t ask(const struct session *session, const uint32_t *record, uint3
 }
 
 /* Prints the wave of one pattern: the moments at which something changes there. */
-static uint32_t print_wave(const struct session *session, uint32_t pattern)
+static uint32_t print_wave(const struct work *work, uint32_t pattern)
 {
     uint32_t values[STS_RUN_CHANGES - STS_RUN_VALUES] = {0};
     uint32_t before[STS_RUN_CHANGES - STS_RUN_VALUES];
     size_t i;
 
-    for (i = 0; i < session->moments_count; i++) {
-        const uint32_t *record = session->moments[i].record;
+    for (i = 0; i < work->moments_count; i++) {
+        const uint32_t *record = work->moments[i].record;
         uint32_t change;
         uint32_t node;
         uint32_t answer;
 
         memcpy(before, values, sizeof before);
-        answer = ask(session, record, pattern, values, &change);
+        answer = ask(work, record, pattern, values, &change);
         if (answer != STS_OK)
             return answer;
         if (i == 0) {
             printf("wave of pattern %" PRIu32 "\n", pattern);
-            print_head(session, "     ps    next");
+            print_head(work, "     ps    next");
         } else if (memcmp(before, values, sizeof before) == 0) {
             continue;
         }
@@ -308,7 +308,7 @@ static uint32_t print_wave(const struct session *session, uint32_t pattern)
             printf("   never");
         else
             printf(" %7" PRIu32, change);
-        for (node = 0; node < session->header[STS_NODES]; node++)
+        for (node = 0; node < work->header[STS_NODES]; node++)
             printf(" %6" PRIu32, values[node]);
         printf("\n");
     }
@@ -317,30 +317,30 @@ static uint32_t print_wave(const struct session *session, uint32_t pattern)
 
 /* Reads the cell, runs it to its end and prints what it does. Gives the first refusal
    that is not the end of the run, or 0. */
-static uint32_t show(struct session *session, uint32_t pattern)
+static uint32_t show(struct work *work, uint32_t pattern)
 {
     uint32_t end;
     uint32_t answer;
 
-    answer = sts_read(session->file, session->file_length,
-                      session->header, STS_HEADER_LENGTH);
+    answer = sts_read(work->file, work->file_length,
+                      work->header, STS_HEADER_LENGTH);
     if (answer != STS_OK)
         return answer;
     printf("cell of %" PRIu32 " nodes, %" PRIu32 " transistors, %" PRIu32 " schedule entries and %"
            PRIu32 " letters, up to %" PRIu32 " ps\n",
-           session->header[STS_NODES], session->header[STS_TRANSISTORS],
-           session->header[STS_ENTRIES], session->header[STS_LETTERS],
-           session->header[STS_HORIZON]);
-    answer = start(session);
+           work->header[STS_NODES], work->header[STS_TRANSISTORS],
+           work->header[STS_ENTRIES], work->header[STS_LETTERS],
+           work->header[STS_HORIZON]);
+    answer = start(work);
     if (answer != STS_OK)
         return answer;
     do
-        end = step(session);
+        end = step(work);
     while (end == STS_OK);
-    renew_moments(session);
-    answer = print_counts(session);
+    renew_moments(work);
+    answer = print_counts(work);
     if (answer == STS_OK)
-        answer = print_wave(session, pattern);
+        answer = print_wave(work, pattern);
     if (answer == STS_OK && end != STS_FINISHED)
         answer = end;
     return answer;
@@ -361,7 +361,7 @@ static int read_pattern(const char *text, uint32_t *pattern)
 
 int main(int count, char **arguments)
 {
-    static struct session session;
+    static struct work work;
     uint32_t pattern = 0;
     uint32_t answer;
 
@@ -369,15 +369,15 @@ int main(int count, char **arguments)
         fputs("usage: editor CELL [PATTERN]\n", stderr);
         return 2;
     }
-    if (read_file(&session, arguments[1]) != 0)
+    if (read_file(&work, arguments[1]) != 0)
         return 2;
-    make_columns(&session.table, TABLE_LENGTH);
-    make_columns(&session.working, WORKING_LENGTH);
-    answer = show(&session, pattern);
+    make_columns(&work.table, TABLE_LENGTH);
+    make_columns(&work.working, WORKING_LENGTH);
+    answer = show(&work, pattern);
     if (answer != STS_OK)
         print_refusal(answer);
-    free(session.moments);
-    free_columns(&session.working);
-    free_columns(&session.table);
+    free(work.moments);
+    free_columns(&work.working);
+    free_columns(&work.table);
     return answer == STS_OK ? 0 : 1;
 }
