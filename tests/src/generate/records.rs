@@ -1,6 +1,7 @@
 //! Run records that are damaged, or that are sound without coming from a run; and
 //! what a working table may hold before a call.
 
+use super::unsound::resize;
 use crate::cell_file::{Cell, Role};
 use crate::functions::{Columns, Entry, NEVER};
 use crate::random::Random;
@@ -161,12 +162,5 @@ pub fn misfit_working(random: &mut Random, columns: &mut Columns) {
         1 => columns.letter.len() - 1,
         _ => random.index(*WORKING.start()),
     };
-    let picked = 1 + random.index(6);
-    for (at, column) in columns.each_mut().into_iter().enumerate() {
-        match all {
-            Some(length) => column.resize(length, filler),
-            None if picked >> at & 1 == 1 => column.resize(other, filler),
-            None => {}
-        }
-    }
+    resize(random, columns, all, other, filler);
 }

@@ -217,6 +217,17 @@ pub fn misfit(random: &mut Random, columns: &mut Columns) {
         6 => random.index(length),
         _ => length + 1 + random.index(100),
     };
+    resize(random, columns, all, other, filler);
+}
+
+/// Gives `all` columns a length, or else one or two of them the length `other`.
+pub(super) fn resize(
+    random: &mut Random,
+    columns: &mut Columns,
+    all: Option<usize>,
+    other: usize,
+    filler: u32,
+) {
     let picked = 1 + random.index(6);
     for (at, column) in columns.each_mut().into_iter().enumerate() {
         match all {
