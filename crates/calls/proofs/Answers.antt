@@ -3,38 +3,30 @@ use mathlib.Core.Path.{_≡_, refl, sym, _∙_, ap, subst}
 use mathlib.Core.Logic.{⊎-elim}
 use mathlib.Core.List.{List}
 use mathlib.Core.Bool.{Bool, true, false, _&&_}
-use Prim.Native.Nat.{ℕ, _+_, _*_, _/_, _<_, _≤_}
+use Prim.Native.Nat.{ℕ, _<_, _≤_}
 use native.Mathlib.Omega.{arith}
-use lib.ListN.{length, take, replicate, length-replicate}
-use lib.Seq.{ext-getD, getD-take, length-take-le}
-use lib.Dec.{leb, ltb}
+use lib.ListN.{length}
+use lib.Dec.{leb}
 use borrow.Author.Tests.{ltb-true, ltb-false, leb-true, le-leb, lt-leb}
 use Rattle.refusal.specs.declared.Refusal.{Refusal}
 use Rattle.refusal.specs.declared.Refusal.the-variants.{Buffer, Unsound, Question, Full}
 use Rattle.refusal.specs.declared.Reply.{Reply}
 use Rattle.refusal.specs.declared.Reply.the-variants.{Done, Refused}
-use Rattle.refusal.specs.Answer.{Answer, refused, answered, replyOf}
+use Rattle.refusal.specs.Answer.{Answer, refused, answered}
 use Rattle.lists.proofs.Cases.{bool-cases, and-left, and-right, true-false}
-use Rattle.lists.proofs.Padded.{replicate-read}
 use Rattle.diagram.specs.Pattern.{mostLetters}
 use Rattle.diagram.specs.Table.{Table}
 use Rattle.diagram.specs.Store.{Stored, store}
-use Rattle.diagram.specs.Call.{Columns, lengthsLegal, columnsSound, tableOf, columnsOf, onTable, storeIn, columnsAfter, usedAfter, entryAfter}
-use Rattle.diagram.proofs.Columns.{Lengths, ColumnsSound, lengths-record, lengths-test, columns-record, columns-path}
-use Rattle.diagram.proofs.Sound.{sound-test}
-use Rattle.diagram.proofs.Answer.{OnTable, on-table-next, storing}
+use Rattle.diagram.specs.Call.{Columns, lengthsLegal, tableOf, columnsOf, onTable, storeIn, columnsAfter}
+use Rattle.diagram.proofs.Columns.{columns-path}
+use Rattle.diagram.proofs.Answer.{storing}
 use Rattle.table.specs.declared.Put.{Put}
-use Rattle.table.specs.Holds.{columns, Sized, Holds, Kept, Outcome, Judged, IndexLength, zeroFrom}
+use Rattle.table.specs.Holds.{columns, Sized, Holds, Kept, Outcome, Judged, zeroFrom}
+use Rattle.table.proofs.Entering.{sized-legal}
 use Rattle.table.proofs.Clearing.{kept-restored}
-use Rattle.functions.specs.Open.{Legible, Open, Operand}
+use Rattle.functions.specs.Open.{Legible}
+use Rattle.functions.proofs.Carry.{sound-legible}
 use Rattle.calls.specs.Answered.{StoredAs, ToldAs, Passed, Closed}
-
--- lengths as the index knows them are legal
-pub sized-lengths : {l w h ix : List ℕ} → Sized l w h ix → Lengths (columns l w h)
-sized-lengths s = record { least = s .least; most = s .most; low-long = s .low-long; high-long = s .high-long }
-
-pub sized-legal : {l w h ix : List ℕ} → Sized l w h ix → lengthsLegal (columns l w h) ≡ true
-sized-legal {l} {w} {h} s = lengths-test (columns l w h) (sized-lengths s)
 
 -- past 8 and 7
 pub judged-passed : {letters : ℕ} {l w h ix ix′ : List ℕ} {used : ℕ} {r : Bool} → Sized l w h ix → Judged letters l w h used ix′ r → r ≡ true → Passed letters l w h used
@@ -42,19 +34,7 @@ judged-passed s j e = record { lengths = sized-legal s; sound = sym (j .is) ∙ 
 
 -- with letters that are few enough the table can be read
 pub passed-legible : {letters : ℕ} {l w h : List ℕ} {used : ℕ} → Passed letters l w h used → letters ≤ mostLetters → Legible letters l w h used
-passed-legible {letters} {l} {w} {h} {used} p few =
-    let long : Lengths (columns l w h) = lengths-record (columns l w h) (p .lengths) in
-    let s : ColumnsSound letters (columns l w h) used = columns-record letters (columns l w h) used (p .sound) in
-    record { few = few; low-long = long .low-long; high-long = long .high-long; fits = s .fits; sound = sound-test letters (tableOf (columns l w h) used) (s .table) }
-
--- and stored in
-pub judged-open : {letters : ℕ} {l w h ix ix′ : List ℕ} {used : ℕ} {r : Bool} → Sized l w h ix → Judged letters l w h used ix′ r → r ≡ true → letters ≤ mostLetters
-    → Open letters l w h ix′ used
-judged-open s j e few = record { legible = passed-legible (judged-passed s j e) few; holds = j .holds e }
-
--- every entry is an operand for all the letters
-pub whole-operand : {letters : ℕ} {t : Table} {used e : ℕ} → e < used → Operand letters t used letters e
-whole-operand g = record { within = g; from = omega arith }
+passed-legible p few = sound-legible (p .lengths) (p .sound) few
 
 module _ {A : Type 0} (letters : ℕ) (l w h : List ℕ) (used : ℕ) (question : Table → Bool) (next : Table → Answer A) where
   abbrev c : Columns
@@ -183,27 +163,3 @@ closed-done {full = full} e = record {
   kept = λ _. refl;
   done = λ _. (refl, refl, refl);
 }
-
--- the columns and an empty index of a length for them
-pub sized-new : {l w h ix : List ℕ} → lengthsLegal (columns l w h) ≡ true → IndexLength (length l) (length ix) → Sized l w h ix
-sized-new {l} {w} {h} e i =
-    let long : Lengths (columns l w h) = lengths-record (columns l w h) e in
-    record { least = long .least; most = long .most; low-long = long .low-long; high-long = long .high-long; even = i .even; room = i .room }
-
--- zeros
-abbrev zeros : ℕ → List ℕ
-zeros m = replicate m 0
-
--- a part of an empty index is an empty index
-pub prefix-long : (n m : ℕ) → n ≤ m → n ≡ length (take n (zeros m))
-prefix-long n m h = sym (length-take-le n (zeros m) (simp length-replicate h))
-
-pub prefix-empty : (n m : ℕ) → n ≤ m → take n (zeros m) ≡ zeros (length (take n (zeros m)))
-prefix-empty n m h =
-    ext-getD 0 (take n (zeros m)) (zeros (length (take n (zeros m)))) (sym (length-replicate (length (take n (zeros m))) 0)) (λ i l.
-    getD-take n (zeros m) i 0 (omega (arith, prefix-long n m h)) ∙ replicate-read m i 0 ∙ sym (replicate-read (length (take n (zeros m))) i 0))
-
--- so the columns can be opened with one
-pub prefix-sized : {l w h : List ℕ} (n m : ℕ) → lengthsLegal (columns l w h) ≡ true → IndexLength (length l) n → n ≤ m
-    → Sized l w h (take n (zeros m)) × (take n (zeros m) ≡ zeros (length (take n (zeros m))))
-prefix-sized {l} n m e i le = (sized-new e (subst (IndexLength (length l)) (prefix-long n m le) i), prefix-empty n m le)

@@ -18,7 +18,7 @@ use Rattle.format.specs.declared.Entry.{Entry}
 use Rattle.format.specs.Circuit.{Circuit, noNode, noTransistor, noEntry}
 use Rattle.format.specs.Legal.{mostNodes, mostTransistors, mostEntries, limitsKept, fieldsLegal, rising}
 use Rattle.format.specs.File.{recordSize, fileHeader, zeroBytes, headerLegal, recordCount, statedLength, nodeKind, transistorKind, entryKind, firstNode, firstTransistor, firstEntry, chain, nodeAt, transistorAt, entryAt, fileCircuit, readFields, readChains, readCell}
-use Rattle.format.proofs.Every.{both-first}
+use Rattle.lists.proofs.Cases.{and-left}
 use Rattle.lists.specs.Padded.{padded}
 use Rattle.records.proofs.Linked.{Found, found-take}
 use Rattle.cell.specs.declared.Cell.{Cell}
@@ -138,4 +138,4 @@ read-by file p q r = rw (p, q, r)
 
 pub header-counted : (file : List ℕ) (h : header.Header) → h ≡ fileHeader file → headerLegal file ≡ true → Counted h
 unfolding headerLegal
-header-counted file h e p = rw e (counted (fileHeader file) (both-first (limitsKept (fileHeader file)) (zeroBytes file 2 14) p))
+header-counted file h e p = rw e (counted (fileHeader file) (and-left (limitsKept (fileHeader file)) (zeroBytes file 2 14) p))

@@ -15,7 +15,7 @@ use Rattle.diagram.specs.Store.{Stored, add, join, find, store, fresh}
 use Rattle.diagram.proofs.Sound.{Sound}
 use Rattle.diagram.proofs.Add.{Extends, extends-refl, extends-trans, added, find-cases, add-found, add-missing}
 use Rattle.diagram.proofs.Number.{numberAt-extends, number-from, number-terminal}
-use Rattle.diagram.proofs.Store.{IsStored, store-stored, store-suc, store-zero, store-ext, store-ignores, join-same, join-differ}
+use Rattle.diagram.proofs.Store.{IsStored, store-stored, store-suc, store-zero, store-ext, store-ignores, join-same, join-differ, join-extends}
 use Rattle.diagram.proofs.Canonical.{canonical}
 use Rattle.rules.specs.Run.{storeAll}
 use Rattle.commute.specs.Demand.{fixedPattern}
@@ -60,13 +60,6 @@ join-gains k a b i =
     ⊎-elim
     (λ (e : a .entry ≡ b .entry). rw (join-same k a b e) (λ l. inl l))
     (λ (n : a .entry ≡ b .entry → ⊥). rw (join-differ k a b n) (add-gains (branch k (a .entry) (b .entry)) (b .table) i))
-    (eq-or-ne (a .entry) (b .entry))
-
-join-extends : (k : ℕ) (a b : Stored) → Extends (b .table) (join k a b .table)
-join-extends k a b =
-    ⊎-elim
-    (λ (e : a .entry ≡ b .entry). rw (join-same k a b e) (extends-refl (b .table)))
-    (λ (n : a .entry ≡ b .entry → ⊥). rw (join-differ k a b n) (added (branch k (a .entry) (b .entry)) (b .table) .extends))
     (eq-or-ne (a .entry) (b .entry))
 
 module _ (φ : Fixing) {letters : ℕ} (few : letters ≤ mostLetters) where

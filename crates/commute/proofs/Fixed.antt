@@ -34,7 +34,7 @@ use Rattle.rules.specs.Delay.{Load, drivenLoad, ownLoad, loadArm, joinLoads, no
 use Rattle.rules.specs.Step.{target, delayTo, inHorizon, nextChange, stepped, initial, started}
 use Rattle.rules.specs.Run.{soonest, patternTime, nextTime}
 use Rattle.rules.proofs.State.{Numbered, numbers-same}
-use Rattle.rules.proofs.Arrive.{source-constant, source-letter, steppedChange, steppedFrom, stepped-from}
+use Rattle.rules.proofs.Arrive.{source-constant, source-letter, some-same, steppedChange, steppedFrom, stepped-from}
 use Rattle.rules.proofs.Step.{startedChange, startedFrom, started-from}
 use Rattle.rules.proofs.Time.{next-least, next-own}
 use Rattle.commute.specs.Demand.{setLetter, fixedPattern}
@@ -123,12 +123,6 @@ pub record Alike (c d : Circuit) : Type 0 where
   pub capacitance-same : (n : ℕ) → nodeRecord c n .capacitance ≡ nodeRecord d n .capacitance
   pub transistors-same : c .transistors ≡ d .transistors
 
--- tests that agree find alike
-some-same : {A : Type 0} (f g : A → Bool) (xs : List A) → ((x : A) → f x ≡ g x) → someOf f xs ≡ someOf g xs
-unfolding someOf
-some-same f g [] h = refl
-some-same f g (x ∷ xs) h = ap₂ _||_ (h x) (some-same f g xs h)
-
 -- sums over arms that agree are equal
 over-same : {A : Type 0} (test : Channel → Bool) {f g : A → Channel → A} {own other : A} (ks : List Channel) → ((a : A) (k : Channel) → f a k ≡ g a k) → own ≡ other
     → overArms test f own ks ≡ overArms test g other ks
@@ -183,7 +177,7 @@ module _ {c d : Circuit} (e : Alike c d) where
   unfolding touched
   touched-alike before after n =
       some-same _ (λ (t : Transistor). ofGroup d n t && disturbed d before after t) (c .transistors)
-      (λ t. ap₂ _&&_ (of-alike n t) (disturbed-alike before after t))
+      (λ t m. ap₂ _&&_ (of-alike n t) (disturbed-alike before after t))
       ∙ ap (someOf (λ (t : Transistor). ofGroup d n t && disturbed d before after t)) (e .transistors-same)
 
   -- the same nodes are reconsidered

@@ -13,18 +13,19 @@ use Rattle.refusal.specs.Answer.{Answer, refused, answered, check}
 use Rattle.lists.proofs.Cases.{and-right, and-both}
 use Rattle.format.specs.Circuit.{Circuit, firstNodeNumber}
 use Rattle.format.specs.Legal.{checkCircuit}
-use Rattle.format.proofs.Check.{refused-not-answered, same-answer, check-passed, check-same}
+use Rattle.refusal.proofs.Answer.{refused-not-answered, same-answer, check-passed}
+use Rattle.format.proofs.Check.{check-same}
 use Rattle.diagram.specs.Pattern.{patterns}
 use Rattle.diagram.specs.Table.{never}
 use Rattle.diagram.specs.Store.{fresh}
-use Rattle.diagram.specs.Call.{Columns, leastEntries, mostEntries, lengthsLegal, tableOf, columnsOf}
+use Rattle.diagram.specs.Call.{Columns, leastEntries, mostEntries, lengthsLegal, columnsOf}
 use Rattle.diagram.proofs.Columns.{lengths-test, columns-lengths, columns-length, columns-sound-test, table-columns}
 use Rattle.diagram.proofs.Sound.{sound-test}
 use Rattle.diagram.proofs.Calls.{fresh-sound}
 use Rattle.rules.specs.Run.{Moment, stateOf, startMoment, timeAfter, stepMoment, fitting}
-use Rattle.rules.specs.Call.{leastWorking, workingLegal, withCell, momentGiven, soundTogether, startCall, stepCall, runCall, askCall}
+use Rattle.rules.specs.Call.{leastWorking, workingLegal, withCell, momentGiven, startCall, stepCall, runCall, askCall}
 use Rattle.rules.proofs.Moment.{SoundMoment, start-sound, step-sound, step-time, time-within}
-use Rattle.rules.proofs.Readable.{held-table, held-given, held-sound, held-lengths, held-step, held-run, wireOf, held-ask}
+use Rattle.rules.proofs.Readable.{held-given, held-step, held-run, wireOf, held-ask}
 use Rattle.rules.proofs.RunSteps.{Rests, Takes, Steps, stays, goes, ran, fitting-fits, run-rests, run-refused, run-exact, steps-keep, steps-trans}
 use Rattle.commute.specs.Lists.{Call, step, upTo, Held, freshColumns, startFresh, holding, leaves, afterCall, afterCalls}
 use Rattle.commute.specs.Demand.{Answered, Stands, Reached, NotRefusedUpTo}
@@ -132,21 +133,9 @@ module _ {c : Circuit} (legal : checkCircuit c ≡ answered c) {size : ℕ} (lea
       )
 
   module _ {m : Moment} (t : Trace c size m) where
-    -- what is held gives the moment back
-    pub trace-table : tableOf (columnsOf size (m .table)) (m .run .used) ≡ m .table
-    trace-table = held-table (trace-sound legal t) size (trace-fits t)
-
     -- with its run record
     pub trace-given : momentGiven (holding size m .columns) (holding size m .run) ≡ m
     trace-given = held-given (trace-sound legal t) size (trace-fits t)
-
-    -- and is sound
-    pub trace-together : soundTogether c (holding size m .columns) (holding size m .run) ≡ true
-    trace-together = held-sound (trace-sound legal t) size (trace-fits t)
-
-    -- its columns have legal lengths
-    pub trace-lengths : lengthsLegal (holding size m .columns) ≡ true
-    trace-lengths = held-lengths (trace-sound legal t) size (trace-fits t) least most
 
     -- and are as long as the table was to be
     pub trace-length : length (holding size m .columns .letter) ≡ size
@@ -204,18 +193,6 @@ module _ {c : Circuit} (legal : checkCircuit c ≡ answered c) {size : ℕ} (lea
         → runCall (checkCircuit c) until (holding size m .columns) (holding size m .run) working ≡ answered after
         → Steps c until size m after × Rests c until after
     run-answered until working after w e = run-exact legal until size (trace-sound legal t) after (sym (trace-run until working w) ∙ e)
-
-    -- and each of them fits
-    pub run-answered-fits : (until : ℕ) (working : Columns) (after : Moment) → workingLegal working ≡ true
-        → runCall (checkCircuit c) until (holding size m .columns) (holding size m .run) working ≡ answered after
-        → (last : Moment) → Steps c until size m last → Takes c until last → length (stepMoment c last .table) ≤ size
-    run-answered-fits until working after w e last steps next =
-        let x = run-answered until working after w e in
-        from (steps-through steps (x .0) (x .1)) next (x .1)
-      where
-        from : {a b : Moment} → Steps c until size a b → Takes c until a → Rests c until b → length (stepMoment c a .table) ≤ size
-        from stays u r = absurd (takes-not-rests u r)
-        from (goes u l rest) v r = l
 
     -- a question about a node at a pattern is answered from the state that the moment holds
     pub trace-ask : (n q : ℕ) → n < firstNodeNumber + length (c .nodes) → q < patterns (c .letters)

@@ -3,6 +3,7 @@ use mathlib.Core.Path.{_≡_, refl, sym, _∙_, ap, ap₂}
 use mathlib.Core.Bool.{Bool}
 use mathlib.Core.List.{List, [], _∷_}
 use Prim.Native.Nat.{ℕ, _≤_}
+use native.Mathlib.Omega.{arith}
 use lib.ListN.{length}
 use lib.Dec.{eqb}
 use borrow.Author.Tests.{eq-eqb}
@@ -28,7 +29,8 @@ use Rattle.commute.proofs.Trace.{Trace, trace-sound, trace-given, trace-length,
 use Rattle.editor.specs.Runs.{recordLength, recordIn, recordColumn, taskAnswer, askAnswer}
 use Rattle.demand.specs.Calls.{Held, answerTo, heldAfter, afterCall, afterCalls}
 use Rattle.demand.specs.Demand.{Stands, stepTime}
-use Rattle.demand.proofs.Column.{column-length, column-run}
+use Rattle.editor.proofs.Column.{column-length}
+use Rattle.demand.proofs.Column.{column-run}
 
 -- what is held of a run as a value, laid out in the editor's columns
 abbrev pub laid : value.Held → Held
@@ -61,7 +63,7 @@ module _ (file : List ℕ) (c : Circuit) (read : readCell file ≡ answered c) w
     column = recordColumn (recordOf (m .run))
 
     long : length column ≡ recordLength
-    long = let s = trace-sound legal t in column-length c few (m .run) (s .run .values-long) (s .run .changes-long)
+    long = let s = trace-sound legal t in column-length (m .run) (omega (arith, few, s .run .values-long)) (omega (arith, few, s .run .changes-long))
 
     -- state its run
     pub laid-run-record : runIn (answered c) (recordIn column) ≡ m .run

@@ -13,10 +13,11 @@ use Rattle.refusal.specs.Answer.{Answer, refused, answered, check}
 use Rattle.lists.proofs.Cases.{bool-cases, and-left}
 use Rattle.format.specs.Circuit.{Circuit}
 use Rattle.format.specs.File.{readCell}
-use Rattle.format.proofs.Check.{refused-not-answered, check-passed}
+use Rattle.refusal.proofs.Answer.{refused-not-answered, check-passed}
 use Rattle.diagram.specs.Store.{stored, fresh}
 use Rattle.diagram.specs.Call.{Columns, leastEntries, mostEntries, lengthsLegal, columnsOf, freshCall, columnsAfter}
 use Rattle.diagram.proofs.Columns.{Lengths, lengths-record, columns-length}
+use Rattle.diagram.proofs.Calls.{fresh-after}
 use Rattle.rules.specs.Run.{Moment}
 use Rattle.rules.specs.Call.{workingLegal, withCell, startCall}
 use Rattle.advance.specs.declared.Task.the-variants.{Start}
@@ -31,12 +32,7 @@ use Rattle.demand.specs.Demand.{Reached}
 use Rattle.demand.proofs.Laid.{laid, legal, task-read, calls-hold}
 
 module _ (table : Columns) where
-  -- columns of legal lengths are made a fresh table of their length
-  pub fresh-made : lengthsLegal table ≡ true → columnsAfter table (freshCall table) ≡ columnsOf (length (table .letter)) fresh
-  unfolding columnsAfter freshCall
-  fresh-made h = ap (λ (b : Bool). columnsAfter table (check b Buffer (answered (stored fresh 0)))) h
-
-  -- others stay
+  -- columns of other lengths stay
   fresh-refused : lengthsLegal table ≡ false → columnsAfter table (freshCall table) ≡ table
   unfolding columnsAfter freshCall
   fresh-refused h = ap (λ (b : Bool). columnsAfter table (check b Buffer (answered (stored fresh 0)))) h
@@ -102,14 +98,14 @@ module _ (file : List ℕ) (c : Circuit) (read : readCell file ≡ answered c) {
   start-read lent legals same working =
       task-read file c read (Start (length fresh)) (withFresh lent .table) (lent .column) working (legals .column)
       ∙ ap₂ (λ (cell : Answer Circuit) (x : Columns). startCall cell x leastEntries working) (sym (legal file c read))
-      (fresh-made (lent .table) (legals .table) ∙ ap (λ (n : ℕ). columnsOf n fresh) same)
+      (fresh-after (lent .table) (legals .table) ∙ ap (λ (n : ℕ). columnsOf n fresh) same)
 
   -- and leaves what the start on the cell does, laid out
   started-laid : (lent : Held) → Lent lent → length (lent .table .letter) ≡ size → (m : Moment) → heldAfter (withFresh lent) (answered m) ≡ laid (holding size m)
   started-laid lent legals same m =
       let long : Lengths (lent .table) = lengths-record (lent .table) (legals .table) in
       let made : length (withFresh lent .table .letter) ≡ size =
-      ap (λ (k : Columns). length (k .letter)) (fresh-made (lent .table) (legals .table)) ∙ columns-length (length (lent .table .letter)) fresh (long .least) ∙ same in
+      ap (λ (k : Columns). length (k .letter)) (fresh-after (lent .table) (legals .table)) ∙ columns-length (length (lent .table .letter)) fresh (long .least) ∙ same in
       ap (λ (n : ℕ). laid (holding n m)) made
 
   -- what is held after a list of calls

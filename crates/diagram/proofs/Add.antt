@@ -5,7 +5,7 @@ use mathlib.Core.List.{[], _∷_, _++_}
 use mathlib.Core.Bool.{true, false}
 use Prim.Native.Nat.{ℕ, zero, suc, _<_, _≤_}
 use native.Mathlib.Omega.{arith}
-use lib.ListN.{length, take, drop, length-append, take-append-drop, List·getD-append}
+use lib.ListN.{length, take, length-append, List·getD-append}
 use lib.Seq.{getD-append-seam, getD-take, ext-getD, length-take-le}
 use borrow.Author.Tests.{lt-ltb, le-ltb}
 use Rattle.lists.proofs.Cases.{bool-cases, lt-or-ge}
@@ -35,10 +35,6 @@ pub extends-take : (t u : Table) → Extends t u → take (length t) u ≡ t
 extends-take t u e =
     let long : length (take (length t) u) ≡ length t = length-take-le (length t) u (e .longer) in
     ext-getD blank (take (length t) u) t long (λ i h. let l : i < length t = omega arith in getD-take (length t) u i blank l ∙ e .kept i l)
-
--- an extension is the table with entries past its end
-pub extends-rest : (t u : Table) → Extends t u → u ≡ t ++ drop (length t) u
-extends-rest t u e = sym (take-append-drop (length t) u) ∙ ap (λ (front : Table). front ++ drop (length t) u) (extends-take t u e)
 
 -- find answers a place or the length
 pub find-le : (x : Entry) (t : Table) → find x t ≤ length t

@@ -1,14 +1,14 @@
 -- What an answered call on a table says of its checks.
-use mathlib.Core.Path.{_≡_, refl, sym, _∙_}
-use mathlib.Core.Bool.{Bool, true, false, _&&_}
+use mathlib.Core.Path.{_≡_, sym, _∙_}
+use mathlib.Core.Bool.{Bool, true, _&&_}
 use Prim.Native.Nat.{ℕ, _<_, _≤_}
 use native.Mathlib.Omega.{arith}
 use lib.ListN.{length}
 use lib.Dec.{leb}
 use borrow.Author.Tests.{leb-true, le-leb}
-use Rattle.refusal.specs.declared.Refusal.{Refusal}
 use Rattle.refusal.specs.declared.Refusal.the-variants.{Buffer, Unsound, Question, Full}
 use Rattle.refusal.specs.Answer.{Answer, answered, check}
+use Rattle.refusal.proofs.Answer.{same-answer, check-passed}
 use Rattle.lists.proofs.Cases.{and-left, and-right}
 use Rattle.diagram.specs.Pattern.{mostLetters, patterns}
 use Rattle.diagram.specs.Table.{Table, numberAt}
@@ -18,15 +18,6 @@ use Rattle.diagram.proofs.Add.{Extends}
 use Rattle.diagram.proofs.Number.{numberAt-extends}
 use Rattle.diagram.proofs.Store.{IsStored, store-stored, store-present}
 use Rattle.diagram.proofs.Columns.{Lengths, ColumnsSound, lengths-record, lengths-test, columns-record, columns-test, table-length, table-columns, columns-table, columns-sound, columns-lengths}
-
--- an answered check passed
-pub check-answered : {A : Type 0} (x : Bool) (why : Refusal) (next : Answer A) (a : A) → check x why next ≡ answered a → (x ≡ true) × (next ≡ answered a)
-check-answered true why next a e = (refl, e)
-check-answered false why next a e = let z : _≡_ {A = ℕ} 0 1 = cc in absurd (omega arith)
-
--- an answer has one value
-pub answered-same : {A : Type 0} (a b : A) → answered a ≡ answered b → a ≡ b
-answered-same a b e = cc
 
 -- the checks before every answer that reads a table
 pub record OnTable (letters : ℕ) (c : Columns) (used : ℕ) (question : Table → Bool) : Type 0 where
@@ -41,9 +32,9 @@ module _ {A : Type 0} (letters : ℕ) (c : Columns) (used : ℕ) (question : Tab
   on-table-answered a e =
       let t : Table = tableOf c used in
       let third : Answer A = check (leb letters mostLetters && question t) Question (next t) in
-      let one : (lengthsLegal c ≡ true) × (check (columnsSound letters c used) Unsound third ≡ answered a) = check-answered (lengthsLegal c) Buffer (check (columnsSound letters c used) Unsound third) a e in
-      let two : (columnsSound letters c used ≡ true) × (third ≡ answered a) = check-answered (columnsSound letters c used) Unsound third a (one .1) in
-      let three : ((leb letters mostLetters && question t) ≡ true) × (next t ≡ answered a) = check-answered (leb letters mostLetters && question t) Question (next t) a (two .1) in (
+      let one : (lengthsLegal c ≡ true) × (check (columnsSound letters c used) Unsound third ≡ answered a) = check-passed (lengthsLegal c) Buffer (check (columnsSound letters c used) Unsound third) a e in
+      let two : (columnsSound letters c used ≡ true) × (third ≡ answered a) = check-passed (columnsSound letters c used) Unsound third a (one .1) in
+      let three : ((leb letters mostLetters && question t) ≡ true) × (next t ≡ answered a) = check-passed (leb letters mostLetters && question t) Question (next t) a (two .1) in (
         record {
           lengths = lengths-record c (one .0);
           sound = columns-record letters c used (two .0);
@@ -102,8 +93,8 @@ module _ {letters : ℕ} {c : Columns} {used : ℕ} {question : Table → Bool} 
   pub store-answered : (s : Stored) → storeIn letters c f (tableOf c used) ≡ answered s → StoredIn letters c used f s
   store-answered s e =
       let u : Stored = store letters 0 f (tableOf c used) in
-      let passed : (leb (length (u .table)) (length (c .letter)) ≡ true) × (answered u ≡ answered s) = check-answered (leb (length (u .table)) (length (c .letter))) Full (answered u) s e in
-      let same : s ≡ u = sym (answered-same u s (passed .1)) in
+      let passed : (leb (length (u .table)) (length (c .letter)) ≡ true) × (answered u ≡ answered s) = check-passed (leb (length (u .table)) (length (c .letter))) Full (answered u) s e in
+      let same : s ≡ u = sym (same-answer (passed .1)) in
       storeIn-fits s same (rw same (leb-true (length (u .table)) (length (c .letter)) (passed .0)))
 
   -- a call that stores is answered where there is room

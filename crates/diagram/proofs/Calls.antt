@@ -8,6 +8,7 @@ use lib.Dec.{leb, ltb}
 use borrow.Author.Tests.{ltb-true, leb-true, lt-ltb, le-leb}
 use Rattle.refusal.specs.declared.Refusal.the-variants.{Buffer}
 use Rattle.refusal.specs.Answer.{answered}
+use Rattle.refusal.proofs.Answer.{same-answer, check-passed}
 use Rattle.lists.specs.Tests.{below}
 use Rattle.lists.proofs.Cases.{and-left, and-right}
 use Rattle.lists.proofs.Below.{below-each, each-below}
@@ -17,10 +18,10 @@ use Rattle.diagram.specs.Table.{Table, numberAt}
 use Rattle.diagram.specs.Sound.{sound, entryLegal, distinct, fixedTerminals}
 use Rattle.diagram.specs.Store.{Stored, stored, store, fresh}
 use Rattle.diagram.specs.Operation.{applied, chosen, letterFixed, twoValued, count}
-use Rattle.diagram.specs.Call.{Columns, lengthsLegal, tableOf, freshCall, applyCall, chooseCall, fixCall, numberCall, countCall, columnsAfter}
+use Rattle.diagram.specs.Call.{Columns, lengthsLegal, tableOf, columnsOf, freshCall, applyCall, chooseCall, fixCall, numberCall, countCall, columnsAfter}
 use Rattle.diagram.proofs.Sound.{Sound, sound-record}
 use Rattle.diagram.proofs.Columns.{Lengths, ColumnsSound, lengths-record, columns-sound}
-use Rattle.diagram.proofs.Answer.{OnTable, StoredIn, check-answered, answered-same, on-table-answered, on-table-next, storing, storing-checks, storing-stored, storing-room, storing-there}
+use Rattle.diagram.proofs.Answer.{OnTable, StoredIn, on-table-answered, on-table-next, storing, storing-checks, storing-stored, storing-room, storing-there}
 
 -- a function of two values takes no number past 1
 pub two-valued-each : (letters : ℕ) (t : Table) (e : ℕ) → twoValued letters t e ≡ true → (p : ℕ) → p < patterns letters → numberAt letters t e p ≤ 1
@@ -37,13 +38,18 @@ pub fresh-sound : (letters : ℕ) → Sound letters fresh
 unfolding sound entryLegal distinct fixedTerminals below
 fresh-sound letters = sound-record letters fresh refl
 
+-- columns of legal lengths are made a fresh table of their length
+pub fresh-after : (c : Columns) → lengthsLegal c ≡ true → columnsAfter c (freshCall c) ≡ columnsOf (length (c .letter)) fresh
+unfolding freshCall columnsAfter
+fresh-after c e = rw e
+
 module _ (c : Columns) (s : Stored) (e : freshCall c ≡ answered s) where
   -- an answered fresh is the fresh table
   pub fresh-answer : Lengths c × (s ≡ stored fresh 0)
   unfolding freshCall
   fresh-answer =
-      let passed : (lengthsLegal c ≡ true) × (answered (stored fresh 0) ≡ answered s) = check-answered (lengthsLegal c) Buffer (answered (stored fresh 0)) s e in
-      (lengths-record c (passed .0), sym (answered-same (stored fresh 0) s (passed .1)))
+      let passed : (lengthsLegal c ≡ true) × (answered (stored fresh 0) ≡ answered s) = check-passed (lengthsLegal c) Buffer (answered (stored fresh 0)) s e in
+      (lengths-record c (passed .0), sym (same-answer (passed .1)))
 
   -- and leaves sound columns
   pub fresh-columns : (letters : ℕ) → ColumnsSound letters (columnsAfter c (answered s)) (length (s .table))
@@ -214,7 +220,7 @@ module _ (letters : ℕ) (c : Columns) (used e p : ℕ) where
   number-answer n q =
       let passed : OnTable letters c used (numberQuestion letters used e p) × (answered (numberAt letters (tableOf c used) e p) ≡ answered n) =
       on-table-answered letters c used (numberQuestion letters used e p) (λ t. answered (numberAt letters t e p)) n q in
-      (passed .0, sym (answered-same (numberAt letters (tableOf c used) e p) n (passed .1)))
+      (passed .0, sym (same-answer (passed .1)))
 
   -- a call that passes its checks is answered
   pub number-next : OnTable letters c used (numberQuestion letters used e p) → numberCall letters c used e p ≡ answered (numberAt letters (tableOf c used) e p)
@@ -229,7 +235,7 @@ module _ (letters : ℕ) (c : Columns) (used e : ℕ) where
   count-answer n q =
       let passed : OnTable letters c used (countQuestion letters used e) × (answered (count letters (tableOf c used) e) ≡ answered n) =
       on-table-answered letters c used (countQuestion letters used e) (λ t. answered (count letters t e)) n q in
-      (passed .0, sym (answered-same (count letters (tableOf c used) e) n (passed .1)))
+      (passed .0, sym (same-answer (passed .1)))
 
   -- a call that passes its checks is answered
   pub count-next : OnTable letters c used (countQuestion letters used e) → countCall letters c used e ≡ answered (count letters (tableOf c used) e)

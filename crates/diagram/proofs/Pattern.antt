@@ -5,10 +5,6 @@ use native.Mathlib.Nat.{div-one, div-div-eq-div-mul, pow-succ', mod-le, mul-le-m
 use native.Mathlib.Omega.{arith}
 use Rattle.diagram.specs.Pattern.{patterns, letterAt, withLetter}
 
--- a letter is 0 or 1
-pub letter-le : (k p : ℕ) → letterAt k p ≤ 1
-letter-le k p = omega arith
-
 -- letter 0 is the lowest bit
 pub letter-zero : (p : ℕ) → letterAt 0 p ≡ p % 2
 letter-zero p = ap (λ (q : ℕ). q % 2) (div-one p)
@@ -40,26 +36,6 @@ pub with-suc : (k bit p : ℕ) → withLetter (suc k) bit p ≡ 2 * withLetter k
 with-suc k bit p =
     let two : 2 ^ suc k ≡ 2 * 2 ^ k = pow-succ' 2 k in
     rw (letter-suc k p, two) (omega (arith, letter-share k (p / 2)))
-
--- letter 0 set at an even pattern
-pub with-zero-even : (bit q : ℕ) → withLetter 0 bit (2 * q) ≡ 2 * q + bit
-with-zero-even bit q = omega (arith, with-zero bit (2 * q))
-
--- at an odd pattern
-pub with-zero-odd : (bit q : ℕ) → withLetter 0 bit (2 * q + 1) ≡ 2 * q + bit
-with-zero-odd bit q = omega (arith, with-zero bit (2 * q + 1))
-
--- a later letter at an even pattern
-pub with-suc-even : (k bit q : ℕ) → withLetter (suc k) bit (2 * q) ≡ 2 * withLetter k bit q
-with-suc-even k bit q =
-    let half : 2 * q / 2 ≡ q = omega arith in
-    with-suc k bit (2 * q) ∙ ap (λ (h : ℕ). 2 * withLetter k bit h + 2 * q % 2) half ∙ omega arith
-
--- a later letter at an odd pattern
-pub with-suc-odd : (k bit q : ℕ) → withLetter (suc k) bit (2 * q + 1) ≡ 2 * withLetter k bit q + 1
-with-suc-odd k bit q =
-    let half : (2 * q + 1) / 2 ≡ q = omega arith in
-    with-suc k bit (2 * q + 1) ∙ ap (λ (h : ℕ). 2 * withLetter k bit h + (2 * q + 1) % 2) half ∙ omega arith
 
 -- a letter set leaves a pattern of the same letters
 pub with-lt : (letters k bit p : ℕ) → p < patterns letters → k < letters → bit ≤ 1 → withLetter k bit p < patterns letters
@@ -97,11 +73,3 @@ with-beyond (suc k) bit p one =
     let half : withLetter (suc k) bit p / 2 ≡ withLetter k bit (p / 2) = rw with-suc (omega arith) in
     let halve : (q : ℕ) → q / 2 ^ suc (suc k) ≡ q / 2 / 2 ^ suc k = λ q. ap (λ (d : ℕ). q / d) (pow-succ' 2 (suc k)) ∙ sym (div-div-eq-div-mul q 2 (2 ^ suc k)) in
     halve (withLetter (suc k) bit p) ∙ ap (λ (q : ℕ). q / 2 ^ suc k) half ∙ with-beyond k bit (p / 2) one ∙ sym (halve p)
-
--- setting a letter twice is setting it once
-pub with-again : (k bit earlier p : ℕ) → earlier ≤ 1 → withLetter k bit (withLetter k earlier p) ≡ withLetter k bit p
-with-again k bit earlier p one = rw (with-same k earlier p one) (omega (arith, letter-share k p))
-
--- a pattern that has the letter already
-pub with-own : (k p : ℕ) → withLetter k (letterAt k p) p ≡ p
-with-own k p = omega (arith, letter-share k p)

@@ -4,13 +4,14 @@ use mathlib.Core.Logic.{⊎-elim}
 use mathlib.Core.List.{List, [], _∷_, map}
 use mathlib.Core.Bool.{Bool, true, false, _&&_, cond}
 use Prim.Native.Nat.{ℕ, zero, suc, _+_, _-_, _*_, _/_, _%_, _^_, _<_, _≤_}
-use native.Mathlib.Nat.{pow-suc, pow-succ', mul-div-cancel, mul-assoc, div-div-eq-div-mul, add-zero, div-one}
+use native.Mathlib.Nat.{pow-suc, pow-succ', mul-div-cancel, div-div-eq-div-mul, div-one}
 use native.Mathlib.Omega.{arith}
 use lib.ListN.{length, getD}
 use lib.Dec.{leb, eqb}
 use lib.Pow.{pow-pos}
-use borrow.Author.Tests.{eqb-true, eqb-false, leb-true, le-leb, eq-eqb}
-use Rattle.lists.proofs.Cases.{bool-cases, and-left, and-right, and-both}
+use borrow.Author.Tests.{eqb-true, eqb-false, leb-true, le-leb}
+use Rattle.lists.proofs.Cases.{bool-cases, and-left, and-right, and-both, bool-ext}
+use Rattle.lists.proofs.Map.{map-same, map-at}
 use Rattle.diagram.specs.declared.Operation.{Operation}
 use Rattle.diagram.specs.Pattern.{mostLetters, patterns, letterAt, withLetter}
 use Rattle.diagram.specs.Table.{Entry, Table, terminalLetter, terminal, entryAt, partOf, numberFrom, numberAt}
@@ -122,9 +123,24 @@ pub data Roots (t : Table) (k : ℕ) : List ℕ → Type 0 where
   none : Roots t k []
   root : {e : ℕ} {es : List ℕ} → e < length t → k ≤ entryAt t e .letter → Roots t k es → Roots t k (e ∷ es)
 
+-- from what holds at each place
+pub roots-of : (t : Table) (k : ℕ) (es : List ℕ) → ((j : ℕ) → j < length es → (getD es j 0 < length t) × (k ≤ entryAt t (getD es j 0) .letter)) → Roots t k es
+roots-of t k [] h = none
+roots-of t k (e ∷ es) h = let here = h 0 (omega arith) in root (here .0) (here .1) (roots-of t k es (λ j g. h (suc j) (omega arith)))
+
 -- their numbers at a pattern
 abbrev pub numbers : ℕ → Table → List ℕ → ℕ → List ℕ
 numbers letters t es p = map (λ (e : ℕ). numberAt letters t e p) es
+
+-- each at its place
+pub numbers-at : (letters : ℕ) (t : Table) (es : List ℕ) (p j : ℕ) → j < length es → getD (numbers letters t es p) j 0 ≡ numberAt letters t (getD es j 0) p
+numbers-at letters t es p j h = map-at (λ (e : ℕ). numberAt letters t e p) es 0 0 j h
+
+-- the same in an extension
+pub numbers-extend : {letters : ℕ} {t u : Table} (es : List ℕ) (p : ℕ) → letters ≤ mostLetters → Sound letters t → Extends t u
+    → ((j : ℕ) → j < length es → getD es j 0 < length t) → numbers letters u es p ≡ numbers letters t es p
+numbers-extend {letters} {t} {u} es p few s x within =
+    map-same (λ (e : ℕ). numberAt letters u e p) (λ (e : ℕ). numberAt letters t e p) 0 es (λ j h. numberAt-extends (getD es j 0) p few s x (within j h))
 
 -- their parts at a letter
 abbrev pub parts : Table → ℕ → ℕ → List ℕ → List ℕ
@@ -145,12 +161,6 @@ with-past (suc m) (suc k) bit p h =
     ∙ ap (λ (q : ℕ). q / 2 ^ m) half
     ∙ with-past m k bit (p / 2) (omega arith)
     ∙ ap (withLetter (k - m) bit) (sym (halve p)))
-
--- two tests that pass together are equal
-both-ways : (x y : Bool) → (x ≡ true → y ≡ true) → (y ≡ true → x ≡ true) → x ≡ y
-both-ways true y f g = sym (f refl)
-both-ways false true f g = g refl
-both-ways false false f g = refl
 
 module _ {letters : ℕ} (t : Table) (few : letters ≤ mostLetters) (s : Sound letters t) where
   -- the parts begin past the letter
@@ -271,7 +281,7 @@ module _ {letters : ℕ} (t : Table) (few : letters ≤ mostLetters) (s : Sound 
   pub two-valued-terminal : (e : ℕ) → entryAt t e .letter ≡ terminalLetter → twoValued letters t e ≡ leb (entryAt t e .low) 1
   two-valued-terminal e leaf =
       let number : (p : ℕ) → numberAt letters t e p ≡ entryAt t e .low = λ p. number-terminal letters 0 t e p (omega arith) leaf in
-      both-ways (twoValued letters t e) (leb (entryAt t e .low) 1)
+      bool-ext (twoValued letters t e) (leb (entryAt t e .low) 1)
       (λ q. le-leb (entryAt t e .low) 1 (rw (← number 0) (two-valued-each letters t e q 0 (pow-pos letters))))
       (λ q. each-two-valued letters t e (λ p h. rw (number p) (leb-true (entryAt t e .low) 1 q)))
 
@@ -282,7 +292,7 @@ module _ {letters : ℕ} (t : Table) (few : letters ≤ mostLetters) (s : Sound 
       let a : ℕ = entryAt t e .low in
       let b : ℕ = entryAt t e .high in
       let values = values-branch t e (λ (v : ℕ). v ≤ 1) few s h node in
-      both-ways (twoValued letters t e) (twoValued letters t a && twoValued letters t b)
+      bool-ext (twoValued letters t e) (twoValued letters t a && twoValued letters t b)
       (λ q.
       let each = values .0 (two-valued-each letters t e q) in
       and-both (twoValued letters t a) (twoValued letters t b) (each-two-valued letters t a (each .0)) (each-two-valued letters t b (each .1)))

@@ -36,6 +36,14 @@ pub join-differ : (k : ℕ) (a b : Stored) → (a .entry ≡ b .entry → ⊥) �
 unfolding join
 join-differ k a b n = rw (ne-eqb (a .entry) (b .entry) n)
 
+-- joining keeps what its second part has
+pub join-extends : (k : ℕ) (a b : Stored) → Extends (b .table) (join k a b .table)
+join-extends k a b =
+    ⊎-elim
+    (λ (e : a .entry ≡ b .entry). rw (join-same k a b e) (extends-refl (b .table)))
+    (λ (n : a .entry ≡ b .entry → ⊥). rw (join-differ k a b n) (added (branch k (a .entry) (b .entry)) (b .table) .extends))
+    (eq-or-ne (a .entry) (b .entry))
+
 -- no letters left: the terminal
 pub store-zero : (k : ℕ) (f : ℕ → ℕ) (t : Table) → store 0 k f t ≡ add (terminal (f 0)) t
 unfolding store
@@ -54,11 +62,6 @@ pub record IsStored (letters n k : ℕ) (f : ℕ → ℕ) (t : Table) (s : Store
   pub within : s .entry < length (s .table)
   pub from : k ≤ entryAt (s .table) (s .entry) .letter
   pub number : (p : ℕ) → p < 2 ^ n → numberFrom n k (s .table) (s .entry) p ≡ f p
-
--- an entry of a sound table stores its own numbers
-pub present-stored : {letters : ℕ} (n k : ℕ) (f : ℕ → ℕ) (t : Table) (e : ℕ) → Sound letters t → e < length t → k ≤ entryAt t e .letter
-    → ((p : ℕ) → p < 2 ^ n → numberFrom n k t e p ≡ f p) → IsStored letters n k f t (stored t e)
-present-stored n k f t e s h le same = record { sound = s; extends = extends-refl t; within = h; from = le; number = same }
 
 -- a number is stored by its terminal
 pub terminal-stored : {letters : ℕ} (k : ℕ) (f : ℕ → ℕ) (t : Table) → letters ≤ mostLetters → Sound letters t → k ≤ letters → IsStored letters 0 k f t (add (terminal (f 0)) t)
@@ -228,21 +231,3 @@ store-skip (suc m) n k f g t few s sum h =
     λ q l. let half : (2 * q + 1) / 2 ≡ q = omega arith in h (2 * q + 1) (omega arith) ∙ ap g (halve (2 * q + 1) ∙ ap (λ (i : ℕ). i / 2 ^ m) half) in
     rw (a, b)
     (store-ignores (m + n) k f t few s (omega arith) (λ q l. even q l ∙ sym (odd q l)) ∙ store-skip m n (suc k) (λ q. f (2 * q)) g t few s (omega arith) even)
-
--- joining adds at most one entry
-pub join-length : (k : ℕ) (a b : Stored) → length (join k a b .table) ≤ suc (length (b .table))
-join-length k a b =
-    ⊎-elim
-    (λ (e : a .entry ≡ b .entry). rw (join-same k a b e) (omega arith))
-    (λ (n : a .entry ≡ b .entry → ⊥). rw (join-differ k a b n) (added (branch k (a .entry) (b .entry)) (b .table) .longest))
-    (eq-or-ne (a .entry) (b .entry))
-
--- storing a function of n letters adds fewer than 2 ^ (n + 1) entries
-pub store-length : (n k : ℕ) (f : ℕ → ℕ) (t : Table) → length (store n k f t .table) < length t + 2 ^ suc n
-store-length zero k f t = rw (store-zero k f t) (omega (arith, added (terminal (f 0)) t .longest))
-store-length (suc n) k f t =
-    let a : Stored = store n (suc k) (λ q. f (2 * q)) t in
-    let b : Stored = store n (suc k) (λ q. f (2 * q + 1)) (a .table) in
-    let two : 2 ^ suc (suc n) ≡ 2 * 2 ^ suc n = pow-succ' 2 (suc n) in
-    rw (store-suc n k f t)
-    (omega (arith, join-length k a b, store-length n (suc k) (λ q. f (2 * q)) t, store-length n (suc k) (λ q. f (2 * q + 1)) (a .table)))

@@ -10,7 +10,7 @@ use Rattle.lists.proofs.Cases.{bool-cases}
 use Rattle.diagram.specs.Pattern.{mostLetters, patterns, letterAt, withLetter}
 use Rattle.diagram.specs.Table.{Table, terminalLetter, entryAt, partOf, numberFrom, numberAt}
 use Rattle.diagram.proofs.Sound.{Branch, Sound}
-use Rattle.diagram.proofs.Number.{part-low, part-high, part-larger, number-from, number-letter, number-branch, number-terminal}
+use Rattle.diagram.proofs.Number.{part-low, part-high, part-larger, number-from, number-letter, number-branch}
 use Rattle.diagram.proofs.Pattern.{with-same, with-beyond, with-lt}
 
 -- an entry that begins past a letter ignores it
@@ -51,7 +51,3 @@ module _ {letters : ℕ} (t : Table) (e : ℕ) (P : ℕ → Type 0) (few : lette
             (λ (x : eqb (letterAt k p) 1 ≡ false). rw (number-branch t e p few s h node, x) (parts .0 p l))
             (bool-cases (eqb (letterAt k p) 1)),
       )
-
-  -- a terminal takes its low number alone
-  pub values-terminal : entryAt t e .letter ≡ terminalLetter → P (entryAt t e .low) → (p : ℕ) → P (numberAt letters t e p)
-  values-terminal leaf low p = rw (number-terminal letters 0 t e p (omega arith) leaf) low

@@ -11,7 +11,7 @@ use Rattle.rules.specs.Run.{Moment}
 use Rattle.record.specs.declared.Run.{Run}
 use Rattle.run.specs.Done.{DoneAs}
 use Rattle.editor.specs.Runs.{AdvanceDone}
-use Rattle.editor.proofs.Handed.{reply-number}
+use Rattle.refusal.proofs.Answer.{reply-number}
 
 module _ {table table′ working working′ : Columns} {r r′ : Run} where
   -- a step that was done, by its reply's number

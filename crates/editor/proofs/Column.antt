@@ -7,9 +7,10 @@ use native.Mathlib.Omega.{arith}
 use lib.ListN.{length, getD, take, drop, set, replicate, length-append, length-drop, length-set, take-append-drop, drop-of-length-le}
 use lib.Seq.{take-suc, drop-cons, append-snoc, getD-drop, set-at, take-at, drop-at, take-all, length-take-le}
 use Rattle.lists.specs.Padded.{padded}
-use Rattle.lists.proofs.Padded.{padded-none, padded-put, padded-length}
+use Rattle.lists.proofs.Padded.{padded-none, padded-put}
 use Rattle.record.specs.declared.Run.{Run}
 use Rattle.record.specs.Record.{recordOf}
+use Rattle.record.proofs.Record.{record-long}
 use Rattle.rules.specs.Run as defined
 use Rattle.editor.specs.Runs.{recordIn, recordColumn}
 
@@ -97,9 +98,8 @@ record-read l values changes e e′ = rw (e, e′)
 -- the column of a record has 50 numbers
 pub column-length : (r : defined.Run) → length (r .values) ≤ 24 → length (r .changes) ≤ 24 → length (recordColumn (recordOf r)) ≡ 50
 column-length r h h′ =
-    let values : length (padded 24 0 (r .values)) ≡ 24 = padded-length 24 0 (r .values) h in
-    let changes : length (padded 24 0 (r .changes)) ≡ 24 = padded-length 24 0 (r .changes) h′ in
-    omega (arith, values, changes, length-append (r .time ∷ r .used ∷ padded 24 0 (r .values)) (padded 24 0 (r .changes)))
+    let x = record-long r h h′ in
+    omega (arith, x .0, x .1, length-append (recordOf r .values) (recordOf r .changes))
 
 -- what one call hands over, the next one reads
 pub read-back : (r : Run) → length (r .values) ≡ 24 → length (r .changes) ≡ 24 → recordIn (recordColumn r) ≡ r

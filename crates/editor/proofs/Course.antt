@@ -20,7 +20,7 @@ use Rattle.advance.specs.Went.{runAfter}
 use Rattle.run.specs.Done.{DoneAs}
 use Rattle.run.specs.Asked.{AskedAs, valueAfter, changeAfter}
 use Rattle.editor.specs.Runs.{recordIn, taskAnswer, columnAfter, TaskDone, askAnswer, toldAfter, AskDone, columnAfterReply, toldAfterReply}
-use Rattle.editor.proofs.Handed.{reply-number}
+use Rattle.refusal.proofs.Answer.{reply-number}
 
 module _ (file : List ℕ) (task : Task) (table : Columns) (column : List ℕ) (working : Columns) where
   -- a record of another length is refused 8

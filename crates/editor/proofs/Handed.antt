@@ -1,18 +1,14 @@
 -- What is handed over with a reply, by the answer that the definitions give.
-use mathlib.Core.Path.{_≡_, refl, sym, _∙_, ap}
+use mathlib.Core.Path.{_≡_, refl, _∙_, ap}
 use Prim.Native.Nat.{ℕ}
 use Rattle.refusal.specs.declared.Reply.{Reply}
 use Rattle.refusal.specs.Number.{replyNumber}
-use Rattle.refusal.specs.Answer.{Answer, refused, answered, replyOf, answerNumber}
+use Rattle.refusal.specs.Answer.{Answer, refused, answered, replyOf}
+use Rattle.refusal.proofs.Answer.{reply-number}
 use Rattle.diagram.specs.Store.{Stored}
 use Rattle.diagram.specs.Call.{Columns, columnsAfter, usedAfter, entryAfter, numberAfter}
 use Rattle.calls.specs.Answered.{StoredAs, ToldAs}
 use Rattle.editor.specs.Functions.{FreshCall, StoredCall, ToldCall, afterReply}
-
--- a reply's number is its answer's
-pub reply-number : {A : Type 0} (a : Answer A) → replyNumber (replyOf a) ≡ answerNumber a
-reply-number (refused why) = refl
-reply-number (answered x) = refl
 
 used-handed : (a : Answer Stored) (used : ℕ) → afterReply used (usedAfter used a) (replyOf a) ≡ usedAfter used a
 used-handed (refused why) used = refl

@@ -10,7 +10,6 @@ use lib.Seq.{ext-getD}
 use lib.Pow.{pow-pos}
 use Rattle.lists.proofs.Cases.{eq-or-ne}
 use Rattle.format.specs.Circuit.{Circuit}
-use Rattle.format.proofs.Every.{map-at}
 use Rattle.diagram.specs.Pattern.{patterns}
 use Rattle.diagram.specs.Table.{Table, terminalLetter, branch, entryAt, numberAt}
 use Rattle.diagram.specs.Store.{add, store}
@@ -19,6 +18,7 @@ use Rattle.diagram.proofs.Sound.{Sound}
 use Rattle.diagram.proofs.Add.{Extends}
 use Rattle.diagram.proofs.Number.{number-zeroth, number-first, number-terminal, numberAt-extends}
 use Rattle.diagram.proofs.Store.{store-number}
+use Rattle.diagram.proofs.Shannon.{numbers-at}
 use Rattle.table.specs.declared.Put.{Put}
 use Rattle.table.specs.Holds.{columns, Outcome}
 use Rattle.functions.specs.Open.{Open}
@@ -28,18 +28,6 @@ use Rattle.descent.specs.Descend.{Entries, NumbersOf}
 use Rattle.attempt.specs.Change.{changeFrom, changeBy}
 use Rattle.attempt.specs.Entries.{Evaluable}
 use Rattle.evaluate.specs.Numbers.{Numbers}
-
--- the number at a place
-pub numbers-at : (k : ℕ) (t : Table) (es : List ℕ) (p j : ℕ) → j < length es → getD (leafAt k t es p) j 0 ≡ numberAt k t (getD es j 0) p
-numbers-at k t es p j h = map-at (λ (e : ℕ). numberAt k t e p) es 0 0 j h
-
--- entries keep their numbers in an extension
-pub numbers-extend : {k : ℕ} {t u : Table} (es : List ℕ) (p : ℕ) → k ≤ 12 → Sound k t → Extends t u → ((j : ℕ) → j < length es → getD es j 0 < length t) → leafAt k u es p ≡ leafAt k t es p
-numbers-extend {k} {t} {u} es p few s x within =
-    ext-getD 0 (leafAt k u es p) (leafAt k t es p) (length-map es (λ (e : ℕ). numberAt k u e p) ∙ sym (length-map es (λ (e : ℕ). numberAt k t e p)))
-    (λ j h.
-    let small : j < length es = omega (arith, length-map es (λ (e : ℕ). numberAt k u e p)) in
-    numbers-at k u es p j small ∙ numberAt-extends (getD es j 0) p few s x (within j small) ∙ sym (numbers-at k t es p j small))
 
 -- so a node is evaluated by them there too
 pub evaluable-extends : {k : ℕ} {t u : Table} {old used left : ℕ} {es : List ℕ} → k ≤ 12 → Sound k t → Extends t u → length t ≡ old → length u ≡ used

@@ -1,12 +1,12 @@
 -- Entries by halves: letter m, which is not behind any of them, at 0 and at 1.
 use mathlib.Core.Path.{_≡_, sym, _∙_, ap, subst}
-use mathlib.Core.List.{List, [], _∷_}
+use mathlib.Core.List.{List}
 use mathlib.Core.Bool.{Bool, false}
-use Prim.Native.Nat.{ℕ, suc, _-_, _<_, _≤_}
+use Prim.Native.Nat.{ℕ, _-_, _<_, _≤_}
 use native.Mathlib.Omega.{arith}
 use lib.ListN.{length, getD, length-map}
+use Rattle.lists.proofs.Map.{map-at}
 use Rattle.format.specs.Circuit.{Circuit}
-use Rattle.format.proofs.Every.{map-at}
 use Rattle.diagram.specs.Pattern.{withLetter}
 use Rattle.diagram.specs.Table.{Entry, Table, terminalLetter, entryAt, partOf}
 use Rattle.diagram.specs.Store.{store}
@@ -27,12 +27,7 @@ use Rattle.descent.specs.Descend.{HalfOf}
 use Rattle.descent.proofs.Going.{by-roots}
 use Rattle.attempt.specs.Change.{changeFrom, changeBy}
 use Rattle.attempt.specs.Entries.{Evaluable}
-use Rattle.evaluate.proofs.Entries.{numbers-extend, evaluable-extends}
-
--- roots, one after the other, from what holds at each place
-roots-of : (t : Table) (m : ℕ) (es : List ℕ) → ((j : ℕ) → j < length es → (getD es j 0 < length t) × (m ≤ entryAt t (getD es j 0) .letter)) → shannon.Roots t m es
-roots-of t m [] h = shannon.none
-roots-of t m (e ∷ es) h = let here = h 0 (omega arith) in shannon.root (here .0) (here .1) (roots-of t m es (λ j g. h (suc j) (omega arith)))
+use Rattle.evaluate.proofs.Entries.{evaluable-extends}
 
 module _ {k : ℕ} {l w h ix : List ℕ} {used left : ℕ} {es : List ℕ} (o : Open k l w h ix used) (e : Evaluable k (tableOf (columns l w h) used) used left es)
     (some : 1 ≤ left) (most : left ≤ k) {m : ℕ} (letter : m ≡ k - left) where
@@ -113,7 +108,7 @@ module _ {k : ℕ} {l w h ix : List ℕ} {used left : ℕ} {es : List ℕ} (o : 
   high-evaluable f = half-evaluable 1 (omega arith) (high-half f)
 
   all-roots : shannon.Roots t m es
-  all-roots = roots-of t m es (λ j g. (within j (omega (arith, e .long)), from-letter j (omega (arith, e .long))))
+  all-roots = shannon.roots-of t m es (λ j g. (within j (omega (arith, e .long)), from-letter j (omega (arith, e .long))))
 
   module _ (c : Circuit) (time : ℕ) (all : Bool) (n : ℕ) {a b : List ℕ} (fa : HalfOf l w es m a) (fb : HalfOf l h es m b) where
     -- the halves make the function
@@ -124,7 +119,7 @@ module _ {k : ℕ} {l w h ix : List ℕ} {used left : ℕ} {es : List ℕ} (o : 
           store-ext k 0 (changeBy c time all n k u b) (changeBy c time all n k t b) v
           (λ p _.
           let high : Evaluable k t used (left - 1) b = high-evaluable fb in
-          ap (changeFrom c time all n) (numbers-extend b p few sound x (λ j g. omega (arith, high .operand j (omega (arith, high .long)) .within, long))));
+          ap (changeFrom c time all n) (shannon.numbers-extend b p few sound x (λ j g. omega (arith, high .operand j (omega (arith, high .long)) .within, long))));
     }
 
     -- the high halves in what the low ones left

@@ -12,9 +12,9 @@ use Rattle.rules.specs.Group.{reconsidered}
 use Rattle.rules.specs.Kept.{Channel, kept}
 use Rattle.rules.specs.Step.{nextChange}
 use Rattle.net.specs.Net.{netCircuit}
+use Rattle.net.proofs.Laying.{nodes-length}
 use Rattle.walk.specs.Leaf.{leafState, leafChange}
 use Rattle.walk.specs.Ready.{Net, Ready}
-use Rattle.walk.proofs.Cell.{net-nodes}
 use Rattle.plain.specs.Shown.{Column, Shows}
 use Rattle.plain.specs.Leaves.{KeptLeaf}
 use Rattle.plain.proofs.Ready.{leaf-shows, kept-ready}
@@ -26,7 +26,7 @@ use Rattle.evaluate.specs.Numbers.{Numbers}
 values-first : (net xs : List ℕ) → Net net → 26 ≤ length xs → take (length (netCircuit net .nodes)) (drop 2 xs) ≡ take (length (netCircuit net .nodes)) (drop 2 (take 26 xs))
 values-first net xs cell long =
     let count : ℕ = length (netCircuit net .nodes) in
-    let few : count ≤ 24 = omega (arith, net-nodes net, cell .within .nodes) in
+    let few : count ≤ 24 = omega (arith, nodes-length net, cell .within .nodes) in
     ext-getD 0 (take count (drop 2 xs)) (take count (drop 2 (take 26 xs))) (simp (length-take, length-drop) (omega arith))
     (λ i h.
     let small : i < count = omega (arith, length-take count (drop 2 xs)) in

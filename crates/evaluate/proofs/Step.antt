@@ -10,7 +10,7 @@ use Rattle.diagram.specs.Table.{Table}
 use Rattle.diagram.specs.Store.{stored, join, store}
 use Rattle.diagram.specs.Call.{tableOf}
 use Rattle.table.specs.declared.Put.{Put}
-use Rattle.table.specs.Holds.{columns, Sized, Holds, Outcome}
+use Rattle.table.specs.Holds.{columns, Holds, Outcome}
 use Rattle.functions.specs.Open.{Open}
 use Rattle.functions.proofs.Halving.{Halves, low-full, low-open, high-full, high-holds, root-done}
 use Rattle.descent.specs.Descend.{Entries, HalfOf}
@@ -18,17 +18,6 @@ use Rattle.attempt.specs.Change.{changeBy}
 use Rattle.attempt.specs.Entries.{Evaluable}
 use Rattle.evaluate.proofs.Entries.{evaluable-entries}
 use Rattle.evaluate.proofs.Halved.{low-evaluable, halves-stored, next-evaluable}
-
--- working's columns keep their lengths
-pub sized-again : {l w h ix l1 w1 h1 ix1 : List ℕ} → Sized l w h ix → length l1 ≡ length l → length w1 ≡ length w → length h1 ≡ length h → length ix1 ≡ length ix → Sized l1 w1 h1 ix1
-sized-again s a b c d = record {
-  least = omega (arith, s .least);
-  most = omega (arith, s .most);
-  low-long = omega (arith, s .low-long);
-  high-long = omega (arith, s .high-long);
-  even = rw d (s .even);
-  room = rw (a, d) (s .room);
-}
 
 -- columns with the same numbers
 abbrev pub Same : (l w h ix l1 w1 h1 ix1 : List ℕ) → Type 0

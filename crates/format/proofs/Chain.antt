@@ -11,7 +11,7 @@ use lib.Dec.{leb, eqb}
 use borrow.Author.Tests.{leb-true, eqb-true}
 use Rattle.format.specs.Legal.{within}
 use Rattle.format.specs.File.{kindAt, nextAt, onto, chain}
-use Rattle.format.proofs.Every.{both-first, both-second}
+use Rattle.lists.proofs.Cases.{and-left, and-right}
 
 none-not-some : {A B : Type 0} {a : A} → none ≡ some a → B
 none-not-some e = let z : _≡_ {A = ℕ} 0 1 = cc in absurd (omega arith)
@@ -22,13 +22,14 @@ pub record Member (file : List ℕ) (count kind r : ℕ) : Type 0 where
   pub most : r ≤ count
   pub kind-is : kindAt file r ≡ kind
 
-member : (file : List ℕ) (count kind r : ℕ) → within 1 count r && eqb (kindAt file r) kind ≡ true → Member file count kind r
+-- by a link's test
+pub member : (file : List ℕ) (count kind r : ℕ) → within 1 count r && eqb (kindAt file r) kind ≡ true → Member file count kind r
 member file count kind r e =
-    let w : within 1 count r ≡ true = both-first (within 1 count r) (eqb (kindAt file r) kind) e in
+    let w : within 1 count r ≡ true = and-left (within 1 count r) (eqb (kindAt file r) kind) e in
     record {
-      least = leb-true 1 r (both-first (leb 1 r) (leb r count) w);
-      most = leb-true r count (both-second (leb 1 r) (leb r count) w);
-      kind-is = eqb-true _ _ (both-second (within 1 count r) (eqb (kindAt file r) kind) e);
+      least = leb-true 1 r (and-left (leb 1 r) (leb r count) w);
+      most = leb-true r count (and-right (leb 1 r) (leb r count) w);
+      kind-is = eqb-true _ _ (and-right (within 1 count r) (eqb (kindAt file r) kind) e);
     }
 
 cond-some : {A : Type 0} (t : Bool) (o : Option A) (a : A) → cond t o none ≡ some a → (t ≡ true) × (o ≡ some a)

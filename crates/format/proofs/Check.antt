@@ -1,28 +1,14 @@
 -- What an answered check says: every test before the answer held.
 use mathlib.Core.Path.{_≡_, refl, sym}
-use mathlib.Core.Bool.{Bool, true, false}
+use mathlib.Core.Bool.{true}
 use mathlib.Core.List.{List}
 use mathlib.Core.Option.{Option, some, none}
 use Prim.Native.Nat.{ℕ}
-use native.Mathlib.Omega.{arith}
-use Rattle.refusal.specs.declared.Refusal.{Refusal}
-use Rattle.refusal.specs.Answer.{Answer, refused, answered, check}
+use Rattle.refusal.specs.Answer.{Answer, answered}
+use Rattle.refusal.proofs.Answer.{refused-not-answered, same-answer, check-passed}
 use Rattle.format.specs.Circuit.{Circuit, headerOf}
 use Rattle.format.specs.Legal.{limitsKept, fieldsLegal, rising, checkCircuit}
 use Rattle.format.specs.File.{chained}
-
--- a refusal is no answer
-pub refused-not-answered : {A B : Type 0} {why : Refusal} {a : A} → refused why ≡ answered a → B
-refused-not-answered e = let z : _≡_ {A = ℕ} 0 1 = cc in absurd (omega arith)
-
--- two answers that are equal have equal values
-pub same-answer : {A : Type 0} {a b : A} → answered a ≡ answered b → a ≡ b
-same-answer e = cc
-
--- a check that answers passed its test, and what follows answers
-pub check-passed : {A : Type 0} (t : Bool) (why : Refusal) (next : Answer A) (a : A) → check t why next ≡ answered a → (t ≡ true) × (next ≡ answered a)
-check-passed true why next a e = (refl, e)
-check-passed false why next a e = refused-not-answered e
 
 -- where a chain's records are used and there is an answer, the chain was found, and what follows answers
 pub chained-passed : {A : Type 0} (o : Option (List ℕ)) (next : List ℕ → Answer A) (a : A) → chained o next ≡ answered a → (rs : List ℕ) × (o ≡ some rs) × (next rs ≡ answered a)

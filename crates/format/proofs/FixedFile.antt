@@ -18,7 +18,8 @@ use Rattle.format.specs.File.{byteAt, halfAt, wordAt, zeroBytes, recordA
 use Rattle.format.specs.File.{kindAt, nextAt, nodeKind, transistorKind, entryKind, onto, chain, nodeAt, transistorAt, entryAt}
 use Rattle.format.specs.File.{nodeBlank, transistorBlank, entryBlank, fileCircuit, readCell}
 use Rattle.format.specs.Fixing.{Fixing, fixedSource, fixedNode, fixedEntry, fixed, isSource, fixedBytes, fixedFile}
-use Rattle.format.proofs.Every.{every-same, map-same}
+use Rattle.lists.proofs.Map.{map-same}
+use Rattle.format.proofs.Every.{every-same}
 use Rattle.format.proofs.Check.{circuit-checked}
 use Rattle.format.proofs.Chain.{chain-place}
 use Rattle.format.proofs.Read.{Chains, Records, ReadAs, read-as, read-answered, read-checked}

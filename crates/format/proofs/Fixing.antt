@@ -15,7 +15,9 @@ use Rattle.format.specs.Circuit.{Circuit, headerOf, noNode, noEntry, nod
 use Rattle.format.specs.Source.{sourceLegal, constant, letterOf}
 use Rattle.format.specs.Legal.{within, nodeLegal, isInput, entryLegal, before, risingFrom, rising, checkCircuit}
 use Rattle.format.specs.Fixing.{Setting, free, low, high, Fixing, setSource, fixedSource, fixedNode, fixedEntry, fixed, settled, andThen, withoutLetters}
-use Rattle.format.proofs.Every.{lt-or-ge, both-first, both-second, both, every-at, every-of, every-map, map-same}
+use Rattle.lists.proofs.Cases.{lt-or-ge, and-left, and-right, and-both}
+use Rattle.lists.proofs.Map.{map-same}
+use Rattle.format.proofs.Every.{every-at, every-of, every-map}
 use Rattle.format.proofs.Check.{Checked, circuit-checked, checked-answered}
 use Rattle.format.proofs.Legal.{fields-apart, fields-joined, legal-node, legal-entry}
 
@@ -138,8 +140,8 @@ unfolding fixed withoutLetters
 without-letters-fixed φ c e =
     let n : Node → Bool = λ m. constant (m .start) in
     let s : Entry → Bool = λ m. constant (m .source) in
-    let ns = both-first (every n (c .nodes)) (every s (c .schedule)) e in
-    let es = both-second (every n (c .nodes)) (every s (c .schedule)) e in
+    let ns = and-left (every n (c .nodes)) (every s (c .schedule)) e in
+    let es = and-right (every n (c .nodes)) (every s (c .schedule)) e in
     cell-same (fixedSource φ) (λ s. s) c
     (λ i h. fixed-constant φ _ (ltb-true _ 2 (every-at n (c .nodes) ns noNode i h)))
     (λ i h. fixed-constant φ _ (ltb-true _ 2 (every-at s (c .schedule) es noEntry i h)))
@@ -157,7 +159,7 @@ fixed-agrees φ ψ c e agree =
 pub fully-fixed-without-letters : (φ : Fixing) (c : Circuit) → checkCircuit c ≡ answered c → ((k : ℕ) → k < c .letters → φ k ≡ free → ⊥) → withoutLetters (fixed φ c) ≡ true
 unfolding fixed withoutLetters
 fully-fixed-without-letters φ c e full =
-    both
+    and-both _ _
     (every-map (λ (n : Node). constant (n .start)) (fixedNode φ) (c .nodes)
     ∙ every-of (λ (n : Node). constant (fixedSource φ (n .start))) (c .nodes) noNode (λ i h. lt-ltb _ 2 (source-set φ (c .letters) _ full (legal-node e i h .source))))
     (every-map (λ (n : Entry). constant (n .source)) (fixedEntry φ) (c .schedule)
@@ -192,7 +194,7 @@ source-legal φ letters s e =
 
 node-legal : (φ : Fixing) (letters : ℕ) (n : Node) → nodeLegal letters n ≡ true → nodeLegal letters (fixedNode φ n) ≡ true
 unfolding nodeLegal
-node-legal φ letters n e = both (source-legal φ letters (n .start) (both-first (sourceLegal letters (n .start)) _ e)) (both-second (sourceLegal letters (n .start)) _ e)
+node-legal φ letters n e = and-both _ _ (source-legal φ letters (n .start) (and-left (sourceLegal letters (n .start)) _ e)) (and-right (sourceLegal letters (n .start)) _ e)
 
 entry-legal : (φ : Fixing) (c : Circuit) (e : Entry) → entryLegal c e ≡ true → entryLegal (fixed φ c) (fixedEntry φ e) ≡ true
 unfolding entryLegal fixed
@@ -200,8 +202,8 @@ entry-legal φ c e q =
     let n = isInput c (e .input) in
     let s = sourceLegal (c .letters) (e .source) in
     let t = within 1 (c .horizon .0) (e .time .0) in
-    let q2 = both-first (n && s) t q in
-    both (both (subst (λ (m : Node). leb 2 (e .input) && eqb (m .role) 1 ≡ true) (sym (fixed-node-record φ c (e .input))) (both-first n s q2)) (source-legal φ (c .letters) (e .source) (both-second n s q2))) (both-second (n && s) t q)
+    let q2 = and-left (n && s) t q in
+    and-both _ _ (and-both _ _ (subst (λ (m : Node). leb 2 (e .input) && eqb (m .role) 1 ≡ true) (sym (fixed-node-record φ c (e .input))) (and-left n s q2)) (source-legal φ (c .letters) (e .source) (and-right n s q2))) (and-right (n && s) t q)
 
 -- fixing keeps the order of a schedule
 rising-from-fixed : (φ : Fixing) (a : Entry) (es : List Entry) → risingFrom (fixedEntry φ a) (map (fixedEntry φ) es) ≡ risingFrom a es

@@ -19,7 +19,8 @@ use Rattle.format.specs.Source.{sourceLegal}
 use Rattle.format.specs.Legal.{mostNodes, mostTransistors, mostEntries, mostLetters, mostHorizon, mostCapacitance, mostResistance, within, limitsKept}
 use Rattle.format.specs.Legal.{inner, input, nodeLegal, nodeNumber, transistorLegal, isInput, entryLegal, fieldsLegal, before, risingFrom, rising, checkCircuit}
 use Rattle.format.specs.File.{readCell}
-use Rattle.format.proofs.Every.{bool-cases, lt-or-ge, both-first, both-second, both, every-at}
+use Rattle.lists.proofs.Cases.{bool-cases, lt-or-ge, and-left, and-right, and-both}
+use Rattle.format.proofs.Every.{every-at}
 use Rattle.format.proofs.Check.{circuit-checked}
 use Rattle.format.proofs.Read.{read-checked}
 
@@ -75,11 +76,11 @@ pub record LegalCell (c : Circuit) : Type 0 where
 
 -- a number within its range is at least the range's first
 pub within-least : (least most x : ℕ) → within least most x ≡ true → least ≤ x
-within-least least most x e = leb-true least x (both-first (leb least x) (leb x most) e)
+within-least least most x e = leb-true least x (and-left (leb least x) (leb x most) e)
 
 -- and at most the range's last
 pub within-most : (least most x : ℕ) → within least most x ≡ true → x ≤ most
-within-most least most x e = leb-true x most (both-second (leb least x) (leb x most) e)
+within-most least most x e = leb-true x most (and-right (leb least x) (leb x most) e)
 
 -- the header check, as ranges
 pub legal-header : (h : Header) → limitsKept h ≡ true → Limits h
@@ -90,18 +91,18 @@ legal-header h e =
     let s = leb (h .entries) mostEntries in
     let k = leb (h .letters) mostLetters in
     let z = within 1 mostHorizon (h .horizon .0) in
-    let e4 = both-first (n && t && s && k) z e in
-    let e3 = both-first (n && t && s) k e4 in
-    let e2 = both-first (n && t) s e3 in
+    let e4 = and-left (n && t && s && k) z e in
+    let e3 = and-left (n && t && s) k e4 in
+    let e2 = and-left (n && t) s e3 in
     record {
-      least-nodes = within-least _ _ _ (both-first n t e2);
-      most-nodes = within-most _ _ _ (both-first n t e2);
-      least-transistors = within-least _ _ _ (both-second n t e2);
-      most-transistors = within-most _ _ _ (both-second n t e2);
-      most-entries = leb-true _ _ (both-second (n && t) s e3);
-      most-letters = leb-true _ _ (both-second (n && t && s) k e4);
-      least-horizon = within-least _ _ _ (both-second (n && t && s && k) z e);
-      most-horizon = within-most _ _ _ (both-second (n && t && s && k) z e);
+      least-nodes = within-least _ _ _ (and-left n t e2);
+      most-nodes = within-most _ _ _ (and-left n t e2);
+      least-transistors = within-least _ _ _ (and-right n t e2);
+      most-transistors = within-most _ _ _ (and-right n t e2);
+      most-entries = leb-true _ _ (and-right (n && t) s e3);
+      most-letters = leb-true _ _ (and-right (n && t && s) k e4);
+      least-horizon = within-least _ _ _ (and-right (n && t && s && k) z e);
+      most-horizon = within-most _ _ _ (and-right (n && t && s && k) z e);
     }
 
 -- the check of a node record, as ranges
@@ -111,8 +112,8 @@ legal-node-record letters n e =
     let role : Bool = eqb (n .role) inner in
     let held : Bool = within 1 mostCapacitance (n .capacitance .0) in
     let none : Bool = eqb (n .role) input && eqb (n .capacitance .0) 0 in
-    let s = ltb-true (n .start) (2 + 2 * letters) (both-first (sourceLegal letters (n .start)) (cond role held none) e) in
-    let f = both-second (sourceLegal letters (n .start)) (cond role held none) e in
+    let s = ltb-true (n .start) (2 + 2 * letters) (and-left (sourceLegal letters (n .start)) (cond role held none) e) in
+    let f = and-right (sourceLegal letters (n .start)) (cond role held none) e in
     ⊎-elim
     (λ (t : role ≡ true).
     let w : held ≡ true = rw t at f in
@@ -126,8 +127,8 @@ legal-node-record letters n e =
     })
     (λ (t : role ≡ false).
     let w : none ≡ true = rw t at f in
-    let one : n .role ≡ 1 = eqb-true (n .role) 1 (both-first (eqb (n .role) input) (eqb (n .capacitance .0) 0) w) in
-    let z : n .capacitance .0 ≡ 0 = eqb-true (n .capacitance .0) 0 (both-second (eqb (n .role) input) (eqb (n .capacitance .0) 0) w) in
+    let one : n .role ≡ 1 = eqb-true (n .role) 1 (and-left (eqb (n .role) input) (eqb (n .capacitance .0) 0) w) in
+    let z : n .capacitance .0 ≡ 0 = eqb-true (n .capacitance .0) 0 (and-right (eqb (n .role) input) (eqb (n .capacitance .0) 0) w) in
     record {
       source = s;
       role-is = inr one;
@@ -147,18 +148,18 @@ legal-transistor-record nodes t e =
     let b = nodeNumber nodes (t .second) in
     let d = not (eqb (t .first) (t .second)) in
     let r = within 1 mostResistance (t .resistance .0) in
-    let e5 = both-first (p && g && a && b && d) r e in
-    let e4 = both-first (p && g && a && b) d e5 in
-    let e3 = both-first (p && g && a) b e4 in
-    let e2 = both-first (p && g) a e3 in
+    let e5 = and-left (p && g && a && b && d) r e in
+    let e4 = and-left (p && g && a && b) d e5 in
+    let e3 = and-left (p && g && a) b e4 in
+    let e2 = and-left (p && g) a e3 in
     record {
-      polarity-is = leb-true _ _ (both-first p g e2);
-      gate-is = ltb-true _ _ (both-second p g e2);
-      first-is = ltb-true _ _ (both-second (p && g) a e3);
-      second-is = ltb-true _ _ (both-second (p && g && a) b e4);
-      ends-differ = eqb-false _ _ (not-true (eqb (t .first) (t .second)) (both-second (p && g && a && b) d e5));
-      least = within-least _ _ _ (both-second (p && g && a && b && d) r e);
-      most = within-most _ _ _ (both-second (p && g && a && b && d) r e);
+      polarity-is = leb-true _ _ (and-left p g e2);
+      gate-is = ltb-true _ _ (and-right p g e2);
+      first-is = ltb-true _ _ (and-right (p && g) a e3);
+      second-is = ltb-true _ _ (and-right (p && g && a) b e4);
+      ends-differ = eqb-false _ _ (not-true (eqb (t .first) (t .second)) (and-right (p && g && a && b) d e5));
+      least = within-least _ _ _ (and-right (p && g && a && b && d) r e);
+      most = within-most _ _ _ (and-right (p && g && a && b && d) r e);
     }
 
 -- a node number whose record is an input's is that of a record
@@ -178,17 +179,17 @@ legal-entry-record c e q =
     let n = isInput c (e .input) in
     let s = sourceLegal (c .letters) (e .source) in
     let t = within 1 (c .horizon .0) (e .time .0) in
-    let q2 = both-first (n && s) t q in
-    let q1 = both-first n s q2 in
-    let l = leb-true 2 (e .input) (both-first (leb firstNodeNumber (e .input)) (eqb (nodeRecord c (e .input) .role) input) q1) in
-    let i = eqb-true _ _ (both-second (leb firstNodeNumber (e .input)) (eqb (nodeRecord c (e .input) .role) input) q1) in
+    let q2 = and-left (n && s) t q in
+    let q1 = and-left n s q2 in
+    let l = leb-true 2 (e .input) (and-left (leb firstNodeNumber (e .input)) (eqb (nodeRecord c (e .input) .role) input) q1) in
+    let i = eqb-true _ _ (and-right (leb firstNodeNumber (e .input)) (eqb (nodeRecord c (e .input) .role) input) q1) in
     record {
       record-least = l;
       record-most = input-recorded c (e .input) l i;
       is-input = i;
-      source-is = ltb-true _ _ (both-second n s q2);
-      least = within-least _ _ _ (both-second (n && s) t q);
-      most = within-most _ _ _ (both-second (n && s) t q);
+      source-is = ltb-true _ _ (and-right n s q2);
+      least = within-least _ _ _ (and-right (n && s) t q);
+      most = within-most _ _ _ (and-right (n && s) t q);
     }
 
 -- the test of two entries, as a fact
@@ -198,8 +199,8 @@ before-is a b e =
     (λ (t : ltb (a .time .0) (b .time .0) ≡ true). inl (ltb-true _ _ t))
     (λ (t : ltb (a .time .0) (b .time .0) ≡ false).
     let f : eqb (a .time .0) (b .time .0) && ltb (a .input) (b .input) ≡ true = rw t at e in
-    let same = both-first (eqb (a .time .0) (b .time .0)) (ltb (a .input) (b .input)) f in
-    let less = both-second (eqb (a .time .0) (b .time .0)) (ltb (a .input) (b .input)) f in
+    let same = and-left (eqb (a .time .0) (b .time .0)) (ltb (a .input) (b .input)) f in
+    let less = and-right (eqb (a .time .0) (b .time .0)) (ltb (a .input) (b .input)) f in
     inr (eqb-true _ _ same, ltb-true _ _ less))
     (bool-cases (ltb (a .time .0) (b .time .0)))
 
@@ -214,17 +215,17 @@ before-trans a b c (inr p) (inr q) = inr (omega arith, omega arith)
 rises-first : (a : Entry) (es : List Entry) → risingFrom a es ≡ true → (j : ℕ) → j < length es → Before a (getD es j noEntry)
 unfolding risingFrom
 rises-first a [] e j h = absurd (omega arith)
-rises-first a (b ∷ es) e zero h = before-is a b (both-first (before a b) (risingFrom b es) e)
+rises-first a (b ∷ es) e zero h = before-is a b (and-left (before a b) (risingFrom b es) e)
 rises-first a (b ∷ es) e (suc j) h =
-    before-trans a b (getD es j noEntry) (before-is a b (both-first (before a b) (risingFrom b es) e))
-    (rises-first b es (both-second (before a b) (risingFrom b es) e) j (le-of-suc-le-suc h))
+    before-trans a b (getD es j noEntry) (before-is a b (and-left (before a b) (risingFrom b es) e))
+    (rises-first b es (and-right (before a b) (risingFrom b es) e) j (le-of-suc-le-suc h))
 
 rises-later : (a : Entry) (es : List Entry) → risingFrom a es ≡ true → (i j : ℕ) → i < j → j < suc (length es) → Before (getD (a ∷ es) i noEntry) (getD (a ∷ es) j noEntry)
 unfolding risingFrom
 rises-later a es e i zero lt h = absurd (omega arith)
 rises-later a es e zero (suc j) lt h = rises-first a es e j (omega arith)
 rises-later a [] e (suc i) (suc j) lt h = absurd (omega arith)
-rises-later a (b ∷ es) e (suc i) (suc j) lt h = rises-later b es (both-second (before a b) (risingFrom b es) e) i j (omega arith) (omega arith)
+rises-later a (b ∷ es) e (suc i) (suc j) lt h = rises-later b es (and-right (before a b) (risingFrom b es) e) i j (omega arith) (omega arith)
 
 -- in a schedule that rises each entry is before each later one
 pub rises : (es : List Entry) → rising es ≡ true → (i j : ℕ) → i < j → j < length es → Before (getD es i noEntry) (getD es j noEntry)
@@ -246,15 +247,15 @@ fields-apart c e =
     let t = every (transistorLegal (length (c .nodes))) (c .transistors) in
     let s = every (entryLegal c) (c .schedule) in
     record {
-      nodes = both-first n t (both-first (n && t) s e);
-      transistors = both-second n t (both-first (n && t) s e);
-      entries = both-second (n && t) s e;
+      nodes = and-left n t (and-left (n && t) s e);
+      transistors = and-right n t (and-left (n && t) s e);
+      entries = and-right (n && t) s e;
     }
 
 -- and together
 pub fields-joined : (c : Circuit) → Fields c → fieldsLegal c ≡ true
 unfolding fieldsLegal
-fields-joined c k = both (both (k .nodes) (k .transistors)) (k .entries)
+fields-joined c k = and-both _ _ (and-both _ _ (k .nodes) (k .transistors)) (k .entries)
 
 module _ {c : Circuit} (e : checkCircuit c ≡ answered c) where
   -- counts, letters and horizon of a legal cell

@@ -12,8 +12,9 @@ use Rattle.format.specs.Legal.{limitsKept, fieldsLegal, rising, checkCir
 use Rattle.format.specs.File.{recordSize, fileHeader, headerLegal, recordCount, statedLength, firstNode, firstTransistor, firstEntry, zeroBytes}
 use Rattle.format.specs.File.{nodeKind, transistorKind, entryKind, chain, nodeAt, transistorAt, entryAt}
 use Rattle.format.specs.File.{nodeBlank, transistorBlank, entryBlank, fileCircuit, readFields, readChains, readCell}
-use Rattle.format.proofs.Every.{both-first, both-second}
-use Rattle.format.proofs.Check.{same-answer, check-passed, chained-passed, checked-answered}
+use Rattle.refusal.proofs.Answer.{same-answer, check-passed}
+use Rattle.lists.proofs.Cases.{and-left, and-right}
+use Rattle.format.proofs.Check.{chained-passed, checked-answered}
 use Rattle.format.proofs.Chain.{chain-length}
 
 -- the records of the three chains of a file
@@ -52,12 +53,12 @@ module _ (file : List ℕ) where
       let bt = every (transistorBlank file) ts in
       let be = every (entryBlank file) es in
       let f = fieldsLegal (fileCircuit file ns ts es) in
-      let blank = both-first (bn && bt && be) f (p .0) in (
+      let blank = and-left (bn && bt && be) f (p .0) in (
         record {
-          nodes-blank = both-first bn bt (both-first (bn && bt) be blank);
-          transistors-blank = both-second bn bt (both-first (bn && bt) be blank);
-          entries-blank = both-second (bn && bt) be blank;
-          fields = both-second (bn && bt && be) f (p .0);
+          nodes-blank = and-left bn bt (and-left (bn && bt) be blank);
+          transistors-blank = and-right bn bt (and-left (bn && bt) be blank);
+          entries-blank = and-right (bn && bt) be blank;
+          fields = and-right (bn && bt && be) f (p .0);
           order = q .0;
         },
         sym (same-answer (q .1)),
@@ -124,7 +125,7 @@ module _ (file : List ℕ) where
 
   header-limits : headerLegal file ≡ true → limitsKept (fileHeader file) ≡ true
   unfolding headerLegal
-  header-limits e = both-first (limitsKept (fileHeader file)) (zeroBytes file 2 14) e
+  header-limits e = and-left (limitsKept (fileHeader file)) (zeroBytes file 2 14) e
 
   circuit-order : (ns ts es : List ℕ) → rising (map (entryAt file) es) ≡ true → rising (fileCircuit file ns ts es .schedule) ≡ true
   unfolding fileCircuit

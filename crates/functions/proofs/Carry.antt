@@ -2,8 +2,8 @@
 use mathlib.Core.Path.{_≡_, sym, _∙_, ap}
 use mathlib.Core.Logic.{⊎-elim}
 use mathlib.Core.List.{List}
-use mathlib.Core.Bool.{true, false, cond}
-use Prim.Native.Nat.{ℕ, suc, _+_, _-_, _<_, _≤_}
+use mathlib.Core.Bool.{Bool, true, false, cond}
+use Prim.Native.Nat.{ℕ, _+_, _-_, _<_, _≤_}
 use native.Mathlib.Omega.{arith}
 use lib.ListN.{length, getD}
 use lib.Seq.{getD-take}
@@ -12,24 +12,17 @@ use Rattle.lists.proofs.Cases.{eq-or-ne}
 use Rattle.diagram.specs.Pattern.{mostLetters}
 use Rattle.diagram.specs.Table.{Entry, Table, blank, terminalLetter, branch, entryAt, partOf}
 use Rattle.diagram.specs.Store.{Stored, stored, add, join, both, store}
-use Rattle.diagram.specs.Call.{rows, tableOf}
+use Rattle.diagram.specs.Call.{lengthsLegal, columnsSound, rows, tableOf}
 use Rattle.diagram.proofs.Sound.{Branch, Sound, sound-record, sound-test}
-use Rattle.diagram.proofs.Add.{Extends, extends-refl, extends-trans, added}
+use Rattle.diagram.proofs.Add.{Extends, extends-trans}
 use Rattle.diagram.proofs.Number.{part-low, part-high, part-self, part-within, part-larger}
 use Rattle.diagram.proofs.Store.{IsStored, store-stored, join-same, join-differ}
-use Rattle.diagram.proofs.Columns.{rows-at, table-at, table-length}
+pub use Rattle.diagram.proofs.Store.{join-extends}
+use Rattle.diagram.proofs.Columns.{Lengths, ColumnsSound, lengths-record, columns-record, rows-at, table-at, table-length}
 use Rattle.table.specs.declared.Put.{Put}
-use Rattle.table.specs.Holds.{columns, Holds, Outcome}
+use Rattle.table.specs.Holds.{columns, Holds, Judged, Outcome}
 use Rattle.table.proofs.Outcomes.{holds-table, holds-again, outcome-there, outcome-extends, outcome-stops}
 use Rattle.functions.specs.Open.{Legible, Open, Operand, PartsOf}
-
--- joining keeps what its second part has
-pub join-extends : (k : ℕ) (a b : Stored) → Extends (b .table) (join k a b .table)
-join-extends k a b =
-    ⊎-elim
-    (λ (e : a .entry ≡ b .entry). rw (join-same k a b e) (extends-refl (b .table)))
-    (λ (n : a .entry ≡ b .entry → ⊥). rw (join-differ k a b n) (added (branch k (a .entry) (b .entry)) (b .table) .extends))
-    (eq-or-ne (a .entry) (b .entry))
 
 -- a function whose halves at a letter are known: the two stores and the join
 module _ {letters : ℕ} {t : Table} (m : ℕ) (f low high : ℕ → ℕ) (few : letters ≤ mostLetters) (s : Sound letters t)
@@ -142,6 +135,21 @@ open-next {letters} {l} {w} {h} {ix} {t} {used} few s g =
       };
       holds = holds-again g;
     }
+
+-- so are those of a table that was found sound
+pub judged-open : {letters : ℕ} {l w h ix : List ℕ} {used : ℕ} {r : Bool} → Judged letters l w h used ix r → r ≡ true → letters ≤ mostLetters → Open letters l w h ix used
+judged-open {letters} {l} {w} {h} {used = used} j e few = open-next few (columns-record letters (columns l w h) used (sym (j .is) ∙ e) .table) (j .holds e)
+
+-- sound columns of legal lengths can be read
+pub sound-legible : {letters : ℕ} {l w h : List ℕ} {used : ℕ} → lengthsLegal (columns l w h) ≡ true → columnsSound letters (columns l w h) used ≡ true → letters ≤ mostLetters → Legible letters l w h used
+sound-legible {letters} {l} {w} {h} {used} legal sound few =
+    let long : Lengths (columns l w h) = lengths-record (columns l w h) legal in
+    let s : ColumnsSound letters (columns l w h) used = columns-record letters (columns l w h) used sound in
+    record { few = few; low-long = long .low-long; high-long = long .high-long; fits = s .fits; sound = sound-test letters (tableOf (columns l w h) used) (s .table) }
+
+-- every entry is an operand for all the letters
+pub whole-operand : {letters : ℕ} {t : Table} {used e : ℕ} → e < used → Operand letters t used letters e
+whole-operand g = record { within = g; from = omega arith }
 
 -- an operand stays one in an extension
 pub operand-next : {letters : ℕ} {l w h ix : List ℕ} {t u : Table} {old used left e : ℕ} → length t ≡ old → Extends t u → Holds l w h ix u used → Operand letters t old left e

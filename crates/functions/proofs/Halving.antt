@@ -1,9 +1,8 @@
 -- One step of a recursion: the low half, the high half in what it left, and the root.
-use mathlib.Core.Path.{_≡_, refl, sym, _∙_, ap, subst}
+use mathlib.Core.Path.{_≡_, subst}
 use mathlib.Core.List.{List}
 use mathlib.Core.Bool.{true, false}
-use Prim.Native.Nat.{ℕ, _-_, _<_, _≤_}
-use lib.ListN.{length}
+use Prim.Native.Nat.{ℕ, _-_}
 use Rattle.diagram.specs.Table.{Table}
 use Rattle.diagram.specs.Store.{Stored, stored, join, both, store}
 use Rattle.diagram.specs.Call.{tableOf}
@@ -14,7 +13,7 @@ use Rattle.table.specs.declared.Put.{Put}
 use Rattle.table.specs.Holds.{columns, Holds, Outcome}
 use Rattle.table.proofs.Outcomes.{holds-table, holds-again}
 use Rattle.functions.specs.Open.{Open, Operand}
-use Rattle.functions.proofs.Carry.{first-stored, second-stored, first-full, second-full, joined, legible-sound, legible-long, open-next, operand-next}
+use Rattle.functions.proofs.Carry.{first-stored, first-full, second-full, joined, legible-sound, legible-long, open-next, operand-next}
 
 -- `f` is stored by `low` and then `high` of the table, which says the same of every extension
 pub record Halves (letters : ℕ) (t : Table) (m : ℕ) (f low : ℕ → ℕ) (high : Table → ℕ → ℕ) : Type 0 where
@@ -38,9 +37,6 @@ module _ {letters : ℕ} {l w h ix : List ℕ} {used : ℕ} (o : Open letters l 
 
   stored-one : IsStored letters letters 0 low t one
   stored-one = first-stored m f low (high t) (o .legible .few) sound (g .halved)
-
-  stored-two : IsStored letters letters 0 (high t) (one .table) two
-  stored-two = second-stored m f low (high t) (o .legible .few) sound (g .halved)
 
   -- no room for the low part
   pub low-full : p .full ≡ true → Outcome (tableOf (columns l w h) used) (store letters 0 f (tableOf (columns l w h) used)) l1 w1 h1 ix1 p

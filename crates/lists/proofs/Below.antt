@@ -1,11 +1,11 @@
 -- Laws of a test over the numbers below a bound.
 use mathlib.Core.Path.{_≡_, refl}
 use mathlib.Core.Logic.{⊎-elim}
-use mathlib.Core.Bool.{Bool, true, false, and-true, true≢false}
+use mathlib.Core.Bool.{Bool, true}
 use Prim.Native.Nat.{ℕ, zero, suc, _<_, _≤_}
 use native.Mathlib.Omega.{arith}
 use Rattle.lists.specs.Tests.{below}
-use Rattle.lists.proofs.Cases.{bool-cases, lt-or-ge, and-left, and-right, and-both}
+use Rattle.lists.proofs.Cases.{lt-or-ge, and-left, and-right, and-both}
 
 -- where all pass, each does
 pub below-each : (n : ℕ) (test : ℕ → Bool) → below n test ≡ true → (i : ℕ) → i < n → test i ≡ true
@@ -30,15 +30,3 @@ pub below-ext : (n : ℕ) (f g : ℕ → Bool) → ((i : ℕ) → i < n → f i 
 unfolding below
 below-ext zero f g h = refl
 below-ext (suc n) f g h = rw (below-ext n f g (λ i l. h i (omega arith)), h n (omega arith))
-
--- where not all pass, one fails
-pub below-fails : (n : ℕ) (test : ℕ → Bool) → below n test ≡ false → (i : ℕ) × (i < n) × (test i ≡ false)
-unfolding below
-below-fails zero test e = absurd (true≢false e)
-below-fails (suc n) test e =
-    ⊎-elim
-    (λ (t : test n ≡ true).
-    let deeper : (i : ℕ) × (i < n) × (test i ≡ false) = below-fails n test (rw (t, and-true) at e) in
-    (deeper .0, omega (arith, deeper .1), deeper .2))
-    (λ (t : test n ≡ false). (n, omega arith, t))
-    (bool-cases (test n))

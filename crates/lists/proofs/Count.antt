@@ -3,6 +3,7 @@ use mathlib.Core.Path.{_≡_, refl}
 use mathlib.Core.Bool.{Bool, true, false, cond}
 use Prim.Native.Nat.{ℕ, zero, suc, _+_, _*_, _<_, _≤_}
 use native.Mathlib.Omega.{arith}
+use lib.Dec.{eqb}
 use Rattle.lists.specs.Tests.{countBelow}
 
 -- equal tests below the bound give equal counts
@@ -28,21 +29,16 @@ pub cond-le : (x : Bool) → cond x 1 0 ≤ 1
 cond-le true = omega arith
 cond-le false = omega arith
 
+-- and one exactly where it passes
+pub cond-one : (x : Bool) → eqb (cond x 1 0) 1 ≡ x
+cond-one true = refl
+cond-one false = refl
+
 -- the count is at most the bound
 pub count-le : (n : ℕ) (f : ℕ → Bool) → countBelow n f ≤ n
 unfolding countBelow
 count-le zero f = omega arith
 count-le (suc n) f = omega (arith, count-le n f, cond-le (f n))
-
--- a range is counted in two parts
-pub count-parts : (m n : ℕ) (f : ℕ → Bool) → countBelow (m + n) f ≡ countBelow m f + countBelow n (λ i. f (m + i))
-unfolding countBelow
-count-parts m zero f =
-    let e : m + zero ≡ m = omega arith in
-    rw e (omega arith)
-count-parts m (suc n) f =
-    let e : m + suc n ≡ suc (m + n) = omega arith in
-    rw (e, count-parts m n f) (omega arith)
 
 -- the even numbers and the odd ones
 pub count-halves : (n : ℕ) (f : ℕ → Bool) → countBelow (2 * n) f ≡ countBelow n (λ q. f (2 * q)) + countBelow n (λ q. f (2 * q + 1))

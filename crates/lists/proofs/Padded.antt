@@ -5,8 +5,8 @@ use mathlib.Core.List.{List, [], _∷_, _++_}
 use Prim.Native.Nat.{ℕ, zero, suc, _+_, _-_, _<_, _≤_}
 use native.Mathlib.Nat.{sub-zero}
 use native.Mathlib.Omega.{arith}
-use lib.ListN.{length, getD, take, drop, set, replicate, length-append, length-replicate, length-set, take-append-drop, List·getD-append, List·getD-eq-default}
-use lib.Seq.{take-append-seam, drop-append-seam, getD-append-add, set-append-seam, set-append-left, append-snoc, length-take-le}
+use lib.ListN.{length, getD, take, drop, set, replicate, length-append, length-replicate, take-append-drop, List·getD-append, List·getD-eq-default}
+use lib.Seq.{take-append-seam, getD-append-add, set-append-seam, append-snoc, length-take-le}
 use Rattle.lists.specs.Padded.{padded}
 use Rattle.lists.proofs.Cases.{lt-or-ge}
 
@@ -24,10 +24,6 @@ module _ {A : Type 0} (m : ℕ) (d : A) (xs : List A) where
   -- the list stands first
   pub padded-take : take (length xs) (padded m d xs) ≡ xs
   padded-take = take-append-seam xs (replicate (m - length xs) d)
-
-  -- and then the default
-  pub padded-drop : drop (length xs) (padded m d xs) ≡ replicate (m - length xs) d
-  padded-drop = drop-append-seam xs (replicate (m - length xs) d)
 
   -- below the list's length stand its elements
   pub padded-at : (i : ℕ) (e : A) → i < length xs → getD (padded m d xs) i e ≡ getD xs i e
@@ -49,10 +45,6 @@ module _ {A : Type 0} (m : ℕ) (d : A) (xs : List A) where
       let more : m - length xs ≡ suc (m - suc (length xs)) = omega arith in
       let fewer : m - length (xs ++ v ∷ []) ≡ m - suc (length xs) = simp length-append (omega arith) in
       rw (more, fewer, append-snoc) (set-append-seam xs d (replicate (m - suc (length xs)) d) v)
-
-  -- an element of the list is written in the list
-  pub padded-set-at : (i : ℕ) (v : A) → i < length xs → set (padded m d xs) i v ≡ padded m d (set xs i v)
-  padded-set-at i v h = rw length-set (set-append-left xs (replicate (m - length xs) d) i v h)
 
 -- a column whose rest is the default is its first part, padded
 pub padded-of-take : {A : Type 0} (d : A) (column : List A) (n : ℕ) → n ≤ length column → drop n column ≡ replicate (length column - n) d

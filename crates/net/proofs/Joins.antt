@@ -10,13 +10,13 @@ use lib.ListN.{length, getD, take, set, length-map}
 use lib.Seq.{take-suc, take-all, getD-set-same, getD-set-other}
 use lib.Dec.{eqb}
 use Rattle.lists.proofs.Cases.{bool-cases, lt-or-ge, and-left, and-right}
+use Rattle.lists.proofs.Map.{map-at}
 use Rattle.format.specs.declared.Transistor.{Transistor}
 use Rattle.format.specs.Circuit.{Circuit, noTransistor}
-use Rattle.format.proofs.Every.{map-at}
 use Rattle.rules.specs.State.{upFrom, nodeNumbers, isInner}
 use Rattle.rules.specs.Group.{Labels, labelAt, join, betweenInner, linkFrom, groups}
 use Rattle.rules.proofs.State.{up-length, up-at}
-use Rattle.rules.proofs.Label.{inner-node}
+use Rattle.rules.proofs.Label.{inner-node, length-join}
 use Rattle.net.specs.Net.{netLength, at, netTransistor, netCircuit}
 use Rattle.net.specs.Laid.{Within}
 use Rattle.net.specs.Written.{OnlyAt, Row, relabelled, Labelled, Linked, Grouped}
@@ -41,19 +41,12 @@ module _ (place : ℕ) (f : ℕ → ℕ) where
           (λ (g : k ≤ i). let same : i ≡ k = omega arith in rw same (getD-set-same net (place + k) v 0 h ∙ e))
           (lt-or-ge i k)
 
-  -- a row's places are those of a row of as many
-  pub row-done : (n k : ℕ) (before net : List ℕ) → Row place k f before net → k ≡ n → Row place n f before net
-  row-done n k before net p e = rw e at p
-
 -- at first each node's label is its number
 pub labelled-first : (place nodes : ℕ) (before after : List ℕ) → nodes ≤ 24 → Row place 26 (λ (n : ℕ). n) before after → Labelled after place (upFrom nodes 2)
 labelled-first place nodes before after few row = λ n least most.
     let l : n < 2 + nodes = omega (arith, up-length nodes 2) in
     let e : 2 + (n - 2) ≡ n = omega arith in
     row .each n (omega arith) ∙ sym (up-at nodes 2 (n - 2) n (omega arith) ∙ e)
-
-pub length-join : (ls : Labels) (a b : ℕ) → length (join ls a b) ≡ length ls
-length-join ls a b = length-map ls (λ (l : ℕ). cond (eqb l (labelAt ls b)) (labelAt ls a) l)
 
 -- labels joined in the column are joined
 pub labelled-join : (place : ℕ) (ls : Labels) (a b : ℕ) (before after : List ℕ) → length ls ≤ 24 → (2 ≤ a) × (a < 2 + length ls) → (2 ≤ b) × (b < 2 + length ls) → Labelled before place ls

@@ -8,6 +8,7 @@ use lib.ListN.{length, getD, length-map}
 use lib.Seq.{ext-getD}
 use lib.Dec.{eqb}
 use borrow.Author.Tests.{le-leb}
+use Rattle.lists.proofs.Map.{map-at, map-same}
 use Rattle.refusal.specs.Answer.{answered}
 use Rattle.units.specs.Units.{picoseconds}
 use Rattle.format.specs.declared.Node.{Node}
@@ -15,7 +16,6 @@ use Rattle.format.specs.declared.Transistor.{Transistor}
 use Rattle.format.specs.declared.Entry.{Entry}
 use Rattle.format.specs.Circuit.{Circuit, noNode, noTransistor, noEntry, nodeRecord}
 use Rattle.format.specs.Legal.{mostNodes, mostTransistors, mostEntries, mostHorizon, isInput, checkCircuit}
-use Rattle.format.proofs.Every.{map-at, map-same}
 use Rattle.format.proofs.Legal.{LegalNode, LegalTransistor, LegalEntry, legal-limits, legal-node, legal-transistor, legal-entry}
 use Rattle.cell.specs.declared.Cell.{Cell}
 use Rattle.cell.specs.Value.{firsts, circuitOf}
@@ -23,7 +23,7 @@ use Rattle.cell.proofs.Firsts.{length-firsts, firsts-at}
 use Rattle.rules.specs.State.{upFrom}
 use Rattle.rules.proofs.State.{up-length, up-at}
 use Rattle.net.specs.Net.{at, netNode, netTransistor, netEntry, netCircuit}
-use Rattle.net.specs.Laid.{NodeWithin, TransistorWithin, EntryWithin, Within}
+use Rattle.net.specs.Laid.{NodeWithin, TransistorWithin, EntryWithin, Within, Laid}
 use Rattle.net.specs.Written.{OnlyAt, puts, headerWrites, Put, Fielded}
 use Rattle.net.proofs.Only.{only-then, only-wider, puts-hit, puts-only}
 use Rattle.net.proofs.Rows.{node-path, transistor-path, entry-path}
@@ -80,6 +80,19 @@ module _ (net : List ℕ) where
   pub entry-at : (i : ℕ) → i < at net 2 → getD (netCircuit net .schedule) i noEntry ≡ netEntry net i
   unfolding netCircuit
   entry-at i h = rows-at (netEntry net) (at net 2) i noEntry h
+
+  -- the letters and the horizon stand at their places
+  pub letters-at : netCircuit net .letters ≡ at net 3
+  unfolding netCircuit
+  letters-at = refl
+
+  pub horizon-at : netCircuit net .horizon .0 ≡ at net 4
+  unfolding netCircuit
+  horizon-at = refl
+
+-- a column that lays out a cell lays out its own
+pub laid-own : {c : Circuit} {net : List ℕ} → Laid c net → Laid (netCircuit net) net
+laid-own l = rw (l .circuit) l
 
 -- a node record is an input's if its role says so
 pub input-at : (net : List ℕ) (n : ℕ) → 2 ≤ n → n < 2 + at net 0 → isInput (netCircuit net) n ≡ eqb (at net (8 + (n - 2))) 1

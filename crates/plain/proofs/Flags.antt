@@ -3,7 +3,7 @@ use mathlib.Core.Path.{_≡_, refl, sym, _∙_, ap, ap₂, subst}
 use mathlib.Core.Logic.{⊎-elim}
 use mathlib.Core.Bool.{Bool, true, false, not, _&&_, cond}
 use mathlib.Core.List.{List, [], _∷_, _++_}
-use Prim.Native.Nat.{ℕ, zero, suc, _+_, _-_, _≤_, _<_}
+use Prim.Native.Nat.{ℕ, zero, suc, _+_, _-_}
 use native.Mathlib.Omega.{arith}
 use lib.ListN.{length, getD, set}
 use lib.Dec.{eqb}
@@ -13,11 +13,9 @@ use Rattle.format.specs.Circuit.{Circuit}
 use Rattle.rules.specs.State.{State, isInner}
 use Rattle.rules.specs.Group.{Labels, labelAt, joined, join, betweenInner}
 use Rattle.rules.specs.Kept.{Channel, conducts, keeps, afterKept, keptFrom}
-use Rattle.rules.proofs.Label.{IsNode, inner-node}
-use Rattle.net.specs.Net.{at}
+use Rattle.rules.proofs.Label.{IsNode, inner-node, length-join}
 use Rattle.net.specs.Laid.{TransistorWithin}
 use Rattle.net.specs.Written.{Labelled}
-use Rattle.net.proofs.Joins.{length-join}
 use Rattle.walk.specs.Leaf.{keptBy}
 use Rattle.plain.specs.Shown.{Column, Shows}
 use Rattle.plain.specs.Leaves.{conductsAt, keepsAt, OneKept, labelsAfter}
@@ -66,12 +64,6 @@ by-snoc flag i (u ∷ ts) t =
     let e : i + suc (length ts) ≡ suc i + length ts = omega arith in
     let one : Channel = record { number = i; transistor = u } in
     rw (by-snoc flag (suc i) ts t, e) (cond-after (flag i) one (keptBy flag (suc i) ts) (oneChannel (flag (suc i + length ts)) (suc i + length ts) t))
-
--- equal flags
-pub by-same : (f g : ℕ → Bool) (i : ℕ) (ts : List Transistor) → ((j : ℕ) → i ≤ j → j < i + length ts → f j ≡ g j) → keptBy f i ts ≡ keptBy g i ts
-unfolding keptBy
-by-same f g i [] h = refl
-by-same f g i (t ∷ ts) h = rw (h i (omega arith) (omega arith), by-same f g (suc i) ts (λ j a b. h j (omega arith) (omega arith)))
 
 module _ (c : Circuit) (s : State) where
   after-length : (ls : Labels) (t : Transistor) → length (afterKept c s ls t) ≡ length ls

@@ -1,12 +1,10 @@
 -- Laws of a node's group, and of the search for a transistor that touches it.
 use mathlib.Core.Path.{_≡_, refl, sym, _∙_, ap, ap₂}
 use mathlib.Core.Logic.{⊎-elim}
-use mathlib.Core.Bool.{Bool, true, false, not, _&&_, _||_}
-use mathlib.Core.List.{List, [], _∷_}
-use Prim.Native.Nat.{ℕ, zero, suc, _+_, _-_, _≤_, _<_}
-use native.Mathlib.Nat.{le-of-suc-le-suc}
+use mathlib.Core.Bool.{Bool, true, false, _&&_, _||_}
+use mathlib.Core.List.{List}
+use Prim.Native.Nat.{ℕ, _+_, _-_, _≤_, _<_}
 use native.Mathlib.Numerals.{add-one}
-use native.Mathlib.Omega.{arith}
 use lib.ListN.{length, getD, drop, drop-of-length-le}
 use lib.Seq.{drop-cons}
 use lib.Dec.{eqb}
@@ -14,8 +12,9 @@ use Rattle.lists.proofs.Cases.{bool-cases}
 use Rattle.format.specs.declared.Transistor.{Transistor}
 use Rattle.format.specs.Circuit.{Circuit, noTransistor}
 use Rattle.rules.specs.State.{State, isInner}
-use Rattle.rules.specs.Group.{labelAt, groups, inGroup, ofGroup, disturbed, some, touched, reconsidered}
-use Rattle.rules.proofs.Label.{IsNode, inner-node}
+use Rattle.rules.specs.Group.{inGroup, ofGroup, disturbed, some, touched, reconsidered}
+use Rattle.rules.proofs.Arrive.{some-same}
+use Rattle.rules.proofs.Label.{IsNode, at-each, inner-node}
 use Rattle.net.specs.Net.{at, netCircuit}
 use Rattle.net.specs.Laid.{Laid}
 use Rattle.plain.specs.Shown.{Column, Shows, disturbedAt}
@@ -55,12 +54,6 @@ module _ (test : Transistor → Bool) (ts : List Transistor) where
   unfolding some
   some-ends i h from = from ∙ ap (some test) (drop-of-length-le ts {i = i} h)
 
--- two tests that agree
-some-same : (f g : Transistor → Bool) (ts : List Transistor) → ((i : ℕ) → i < length ts → f (getD ts i noTransistor) ≡ g (getD ts i noTransistor)) → some f ts ≡ some g ts
-unfolding some
-some-same f g [] h = refl
-some-same f g (t ∷ ts) h = ap₂ _||_ (h zero (omega arith)) (some-same f g ts (λ i l. h (suc i) (omega arith)))
-
 module _ (net before after : List ℕ) (n : ℕ) (laid : Laid (netCircuit net) net) (wb : Column before) (wa : Column after) where
   -- an inner node is reconsidered if something touches its group
   pub inner-reconsidered : (r : Bool) → isInner (netCircuit net) n ≡ true → some (touches (netCircuit net) before after n) (netCircuit net .transistors) ≡ r
@@ -70,10 +63,11 @@ module _ (net before after : List ℕ) (n : ℕ) (laid : Laid (netCircuit net) n
       let c : Circuit = netCircuit net in
       sym f
       ∙ some-same (touches c before after n) (λ (u : Transistor). ofGroup c n u && disturbed c s t u) (c .transistors)
+      (at-each _ noTransistor (c .transistors)
       (λ i h.
       let w = wired net laid i h in
       let u : Transistor = getD (c .transistors) i noTransistor in
-      ap (λ (b : Bool). ofGroup c n u && b) (sym (disturbed-shown c before after s t wb wa sb sa u (w .gate) (w .first) (w .second))))
+      ap (λ (b : Bool). ofGroup c n u && b) (sym (disturbed-shown c before after s t wb wa sb sa u (w .gate) (w .first) (w .second)))))
       ∙ rw e refl
 
   -- another node is not

@@ -1,15 +1,16 @@
 -- Laws of the loop that sets the flags, and of the leaf it makes.
 use mathlib.Core.Path.{_≡_, refl, sym, _∙_, ap, ap₂, subst}
 use mathlib.Core.Logic.{⊎-elim}
-use mathlib.Core.Bool.{Bool, true, false, _&&_, cond}
+use mathlib.Core.Bool.{Bool, _&&_, cond}
 use mathlib.Core.List.{List, [], _∷_, _++_}
-use Prim.Native.Nat.{ℕ, zero, suc, _+_, _-_, _≤_, _<_}
+use Prim.Native.Nat.{ℕ, _+_, _-_, _≤_, _<_}
 use native.Mathlib.Numerals.{add-one}
 use native.Mathlib.Omega.{arith}
-use lib.ListN.{length, getD, take, set, replicate, length-replicate}
+use lib.ListN.{length, getD, take, replicate, length-replicate}
 use lib.Seq.{take-suc, take-all, length-take-le, getD-set-same, getD-set-other}
 use lib.Dec.{eqb}
-use Rattle.lists.proofs.Cases.{bool-cases, lt-or-ge}
+use Rattle.lists.proofs.Cases.{lt-or-ge}
+use Rattle.lists.proofs.Count.{cond-le, cond-one}
 use Rattle.lists.proofs.Padded.{replicate-read}
 use Rattle.format.specs.declared.Transistor.{Transistor}
 use Rattle.format.specs.Circuit.{Circuit, noTransistor}
@@ -18,14 +19,15 @@ use Rattle.rules.specs.Group.{Labels, join, betweenInner}
 use Rattle.rules.specs.Kept.{Channel, keeps, afterKept, kept, keptFrom}
 use Rattle.rules.proofs.State.{up-length, up-at}
 use Rattle.net.specs.Net.{at, netCircuit}
-use Rattle.net.specs.Laid.{Laid, TransistorWithin}
+use Rattle.net.specs.Laid.{TransistorWithin}
 use Rattle.net.specs.Written.{OnlyAt, Row, Labelled}
 use Rattle.net.proofs.Only.{only-none, only-then, only-wider, only-set}
 use Rattle.net.proofs.Laying.{transistors-length}
-use Rattle.walk.specs.Leaf.{keptBy, isKept, leafChannels}
+use Rattle.walk.specs.Leaf.{keptBy, isKept}
+use Rattle.walk.proofs.Arms.{by-ext}
 use Rattle.plain.specs.Shown.{Column, Shows}
 use Rattle.plain.specs.Leaves.{keepsAt, OneKept, labelsAfter, KeptTo, KeptLeaf}
-use Rattle.plain.proofs.Flags.{keeps-shown, oneChannel, by-snoc, by-same, length-after, after-snoc, kept-snoc}
+use Rattle.plain.proofs.Flags.{keeps-shown, oneChannel, by-snoc, length-after, after-snoc, kept-snoc}
 
 -- labels that were just started are the nodes' own
 pub own-labels : (before labels : List ℕ) → Row 0 26 (λ (n : ℕ). n) before labels → (n : ℕ) → n < 26 → getD labels n 0 ≡ n
@@ -46,14 +48,6 @@ kept-none c values leaf labels few own = record {
         let place : 0 + n ≡ n = omega arith in
         let e : 2 + (n - 2) ≡ n = omega arith in
         rw place (own n (omega arith)) ∙ sym (up-at (length (c .nodes)) 2 (n - 2) n (omega arith) ∙ e)
-
-bit-is : (b : Bool) → eqb (cond b 1 0) 1 ≡ b
-bit-is true = refl
-bit-is false = refl
-
-bit-le : (b : Bool) → cond b 1 0 ≤ 1
-bit-le true = omega arith
-bit-le false = omega arith
 
 -- one transistor more
 module _ (c : Circuit) (values : List ℕ) (k : ℕ) (before leaf next labels after : List ℕ) (w : Column values) (long : 26 + k < length leaf) (in-list : k < length (c .transistors))
@@ -98,8 +92,8 @@ module _ (c : Circuit) (values : List ℕ) (k : ℕ) (before leaf next labels af
     channels-more : keptBy (isKept next) 0 (take (k + 1) (c .transistors)) ≡ keptFrom c s (nodeNumbers c) 0 (take (k + 1) (c .transistors))
     unfolding ts ls
     channels-more =
-        let same : keptBy (isKept next) 0 ts ≡ keptBy (isKept leaf) 0 ts = by-same (isKept next) (isKept leaf) 0 ts (λ j a b. ap (λ (x : ℕ). eqb x 1) (old (26 + j) (omega (arith, size)))) in
-        let is : isKept next k ≡ keeps c s ls t = ap (λ (x : ℕ). eqb x 1) new ∙ bit-is flag ∙ flag-is in
+        let same : keptBy (isKept next) 0 ts ≡ keptBy (isKept leaf) 0 ts = by-ext (isKept next) (isKept leaf) 0 ts (λ j a b. ap (λ (x : ℕ). eqb x 1) (old (26 + j) (omega (arith, size)))) in
+        let is : isKept next k ≡ keeps c s ls t = ap (λ (x : ℕ). eqb x 1) new ∙ cond-one flag ∙ flag-is in
         let last : oneChannel (isKept next (0 + length ts)) (0 + length ts) t ≡ oneChannel (keeps c s ls t) (0 + length ts) t =
         ap (λ (b : Bool). oneChannel b (0 + length ts) t) (ap (isKept next) size ∙ is) in
         ap (keptBy (isKept next) 0) more ∙ by-snoc (isKept next) 0 ts t
@@ -122,7 +116,7 @@ module _ (c : Circuit) (values : List ℕ) (k : ℕ) (before leaf next labels af
     bits = λ i h.
         ⊎-elim
         (λ (l : i < k). rw (old (26 + i) (omega arith)) (so-far .bits i l))
-        (λ (l : k ≤ i). let same : i ≡ k = omega arith in rw (same, new) (bit-le flag))
+        (λ (l : k ≤ i). let same : i ≡ k = omega arith in rw (same, new) (cond-le flag))
         (lt-or-ge i k);
     channels = channels-more;
     labelled = labelled-more;

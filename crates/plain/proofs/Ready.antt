@@ -1,28 +1,21 @@
 -- A column that lays out a cell, and the leaf of a pattern, are what the walks ask.
-use mathlib.Core.Path.{_≡_, refl, sym, _∙_, ap, subst}
+use mathlib.Core.Path.{_≡_, sym, _∙_, subst}
 use mathlib.Core.List.{List}
 use Prim.Native.Nat.{ℕ, _+_, _≤_, _<_}
 use native.Mathlib.Omega.{arith}
 use lib.ListN.{length, getD, take, drop, length-take, length-drop}
 use lib.Seq.{ext-getD, getD-take, getD-drop}
-use Rattle.refusal.specs.Answer.{answered}
 use Rattle.format.specs.Circuit.{Circuit}
-use Rattle.format.specs.Legal.{checkCircuit}
 use Rattle.format.proofs.Legal.{legal-cell}
 use Rattle.rules.specs.State.{State}
-use Rattle.rules.specs.Kept.{Channel}
-use Rattle.net.specs.Net.{at, netCircuit, armsOf}
+use Rattle.net.specs.Net.{at, netCircuit}
 use Rattle.net.specs.Laid.{Laid}
 use Rattle.net.proofs.Laying.{nodes-length}
-use Rattle.walk.specs.Leaf.{leafState, leafChannels}
-use Rattle.walk.specs.Ready.{Leaf, Ranged, Ready}
-use Rattle.walk.proofs.Meet.{laid-net, kept-ranged}
-use Rattle.plain.specs.Shown.{Column, Shows}
+use Rattle.walk.specs.Leaf.{leafState}
+use Rattle.walk.specs.Ready.{Ranged, Ready}
+use Rattle.walk.proofs.Meet.{kept-ranged}
+use Rattle.plain.specs.Shown.{Column}
 use Rattle.plain.specs.Leaves.{KeptLeaf}
-
--- it lays out the cell that it reads as
-pub laid-self : {c : Circuit} {net : List ℕ} → Laid c net → Laid (netCircuit net) net
-laid-self {c} {net} laid = subst (λ (x : Circuit). Laid x net) (sym (laid .circuit)) laid
 
 -- the leaf shows a state's values if the column does
 pub leaf-shows : (net values leaf : List ℕ) → Laid (netCircuit net) net → Column values → KeptLeaf net values leaf → take (length (netCircuit net .nodes)) (drop 2 leaf) ≡ take (length (netCircuit net .nodes)) (drop 2 values)
@@ -42,7 +35,7 @@ kept-ready net values leaf laid w bits leaf-is =
     let few = laid .within .nodes in
     let s : State = leafState c 0 leaf in
     record {
-      cell = laid-net laid;
+      cell = laid;
       numbers = record {
         long = leaf-is .long;
         ground = leaf-is .same 0 (omega arith) ∙ w .ground;

@@ -8,7 +8,7 @@ use native.Mathlib.Omega.{arith}
 use lib.ListN.{length, getD}
 use lib.Dec.{ltb, eqb}
 use borrow.Author.Tests.{lt-ltb, eqb-true, eq-eqb, ne-eqb}
-use Rattle.lists.proofs.Cases.{bool-cases, eq-or-ne, lt-or-ge, true-false, and-left, and-right, and-both}
+use Rattle.lists.proofs.Cases.{bool-cases, eq-or-ne, lt-or-ge, true-false, and-left, and-right, and-both, or-left}
 use Rattle.format.specs.declared.Transistor.{Transistor}
 use Rattle.format.specs.Circuit.{Circuit}
 use Rattle.format.proofs.Legal.{LegalCell}
@@ -25,15 +25,16 @@ use Rattle.rules.specs.State.{State, isInner}
 use Rattle.rules.specs.Arrive.{changed}
 use Rattle.rules.specs.Group.{labelAt, joined, betweenInner, groups, inGroup, ofGroup, disturbed, touched, reconsidered}
 use Rattle.rules.specs.Kept.{conducts}
+use Rattle.rules.proofs.Arrive.{some-same}
 use Rattle.rules.proofs.Label.{joined-refl}
-use Rattle.rules.proofs.Matrix.{isKept, isHeld, transistorAt, or-first, kept-by-labels, LookedAt, group-kept}
+use Rattle.rules.proofs.Matrix.{isKept, isHeld, transistorAt, kept-by-labels, LookedAt, group-kept}
 use Rattle.net.specs.Net.{at, netCircuit, netGroup}
 use Rattle.net.specs.Laid.{Laid}
 use Rattle.net.proofs.Laying.{nodes-length, transistors-length}
 use Rattle.prepare.specs.Steps.{Shows, Bits, groupOf, considered, touchedBy, differs, touchedLabel, lookedAt, KeptAll}
 use Rattle.prepare.specs.Roots.{NodeRoots, KeptRoots, Roots}
 use Rattle.prepare.proofs.Reading.{laid-legal, laid-label, laid-least, group-other}
-use Rattle.prepare.proofs.Touching.{some-same, touched-same, bit-some}
+use Rattle.prepare.proofs.Touching.{touched-same, bit-some}
 
 -- a considered group by its label is touched as rule 2 says
 module _ (c : Circuit) (l : LegalCell c) (only n : ℕ) (so : considered only (labelAt (groups c) n) ≡ true) where
@@ -88,9 +89,6 @@ module _ (net : List ℕ) (k : Laid (netCircuit net) net) {letters : ℕ} (t : T
 
   first-on : Extends (tableOf (columns l1 w1 h1) used1) last
   first-on = extends-trans (w .extends) second-on
-
-  few : at net 0 ≤ 24
-  few = k .within .nodes
 
   -- the values' entries have the numbers of the lent table, in the last two tables
   value-last : (n p : ℕ) → n < 2 + at net 0 → p < patterns letters → numberAt letters last (getD values n 0) p ≡ numberAt letters t (getD after n 0) p
@@ -187,7 +185,7 @@ module _ (net : List ℕ) (k : Laid (netCircuit net) net) {letters : ℕ} (t : T
       kept-between d =
           let inner : isInner c (u .first) ≡ true = and-left (isInner c (u .first)) (isInner c (u .second)) d in
           let lt : u .first < 2 + at net 0 = omega (arith, laid-legal net k .transistor i here .first-is, nodes-length net) in
-          let of : ofGroup c (u .first) u ≡ true = or-first (inGroup c (u .first) (u .first)) _ (and-both (isInner c (u .first)) (joined (groups c) (u .first) (u .first)) inner (joined-refl (groups c) (u .first))) in
+          let of : ofGroup c (u .first) u ≡ true = or-left (inGroup c (u .first) (u .first)) _ (and-both (isInner c (u .first)) (joined (groups c) (u .first) (u .first)) inner (joined-refl (groups c) (u .first))) in
           let same : groupOf c u ≡ labelAt (groups c) (u .first) = rw inner in
           let mark : numberAt letters last (getD roots (90 + u .first) 0) p ≡ 1 =
           ap (λ (z : ℕ). numberAt letters last z p) (touched-root (u .first) lt inner)

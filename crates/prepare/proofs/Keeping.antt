@@ -11,6 +11,7 @@ use lib.Seq.{getD-set-same, getD-set-other}
 use lib.Dec.{ltb, eqb}
 use borrow.Author.Tests.{lt-ltb, le-ltb, eq-eqb, ne-eqb}
 use Rattle.lists.proofs.Cases.{eq-or-ne}
+use Rattle.lists.proofs.Count.{cond-le, cond-one}
 use Rattle.format.specs.declared.Transistor.{Transistor}
 use Rattle.format.specs.Circuit.{Circuit}
 use Rattle.diagram.specs.Pattern.{patterns}
@@ -34,7 +35,6 @@ use Rattle.net.specs.Net.{at, netTransistor, netCircuit}
 use Rattle.net.specs.Laid.{Laid}
 use Rattle.prepare.specs.Steps.{Shows, Bits, one, groupOf, conductsNumber, keptNumber, lookedAt, Keeping, KeptAll}
 use Rattle.prepare.proofs.Reading.{laid-between, laid-by-first, laid-by-second, laid-no-group}
-use Rattle.prepare.proofs.Touching.{one-bit, bit-small}
 
 -- a p or an n, in bits
 conducts-bit : (polarity gate : ℕ) → polarity ≤ 1 → gate ≤ 1 → conductsNumber polarity gate ≡ bit (eqb gate (1 - polarity))
@@ -152,7 +152,7 @@ link-between {letters} {t} between kept a b joined e m = record {
 held-bit : (polarity touched gate joined : ℕ) (between at : Bool) → polarity ≤ 1 → gate ≤ 1 → (between ≡ true → joined ≡ bit at)
     → keptNumber polarity between touched gate joined ≡ bit ((eqb gate (1 - polarity) && eqb touched 1) && not (between && at))
 held-bit polarity touched gate joined true at hp hg hj =
-    rw (conducts-bit polarity gate hp hg, hj refl, one-bit at) (kept-choice true (eqb touched 1) (eqb gate (1 - polarity)) at)
+    rw (conducts-bit polarity gate hp hg, hj refl, cond-one at) (kept-choice true (eqb touched 1) (eqb gate (1 - polarity)) at)
 held-bit polarity touched gate joined false at hp hg hj =
     rw (conducts-bit polarity gate hp hg) (kept-choice false (eqb touched 1) (eqb gate (1 - polarity)) at)
 
@@ -296,7 +296,7 @@ keeping-first {c} {nodes} {letters} {l} {w} {h} {ix} {used} {values} {touched} {
   opened = o;
   extends = extends-refl _;
   kept-used = λ i hi. omega (arith, zeros i hi, open-three o);
-  joined-used = λ x y hx hy. omega (arith, first x y hx hy, bit-small (eqb x y), open-three o);
+  joined-used = λ x y hx hy. omega (arith, first x y hx hy, cond-le (eqb x y), open-three o);
   kept-is = λ i p s hi hp shows. absurd (omega arith);
   joined-is = λ x y p s hx hy hp shows. rw (first x y hx hy) (number-bit p (eqb x y)) ∙ ap bit (eqb-shift x y);
 }

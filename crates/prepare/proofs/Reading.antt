@@ -2,12 +2,12 @@
 use mathlib.Core.Path.{_≡_, refl, sym, _∙_, subst}
 use mathlib.Core.Logic.{inl, ⊎-elim}
 use mathlib.Core.List.{List, [], _∷_, List·Memᴰ·head, List·Memᴰ·tail}
-use mathlib.Core.Bool.{Bool, true, false, not, _&&_, _||_, cond}
+use mathlib.Core.Bool.{Bool, true, false, _&&_, _||_, cond}
 use Prim.Native.Nat.{ℕ, _+_, _-_, _≤_, _<_}
 use native.Mathlib.Omega.{arith}
 use lib.ListN.{length}
 use lib.Dec.{eqb}
-use borrow.Author.Tests.{le-leb, lt-leb, eq-eqb, ne-eqb}
+use borrow.Author.Tests.{lt-leb, eq-eqb, ne-eqb}
 use Rattle.lists.proofs.Cases.{eq-or-ne, and-both}
 use Rattle.format.specs.declared.Transistor.{Transistor}
 use Rattle.format.specs.Circuit.{Circuit, noTransistor}
@@ -15,11 +15,12 @@ use Rattle.format.specs.Legal.{isInput}
 use Rattle.format.proofs.Legal.{LegalTransistor, LegalCell, legal-cell}
 use Rattle.rules.specs.State.{nodeNumbers, isInner}
 use Rattle.rules.specs.Group.{Labels, labelAt, join, betweenInner, linkFrom, groups}
-use Rattle.rules.proofs.Label.{IsNode, AllLegal, all-legal, joined-alike, inner-node, ends-inner, relabel-same, relabel-other, length-join, label-join, length-upFrom, first-label, groups-join, Linked·same, Linked·over}
+use Rattle.rules.proofs.State.{up-length}
+use Rattle.rules.proofs.Label.{IsNode, AllLegal, all-legal, joined-alike, inner-node, ends-inner, relabel-same, relabel-other, length-join, label-join, first-label, groups-join, Linked·same, Linked·over}
 use Rattle.rules.proofs.Matrix.{transistorAt, at-member}
 use Rattle.net.specs.Net.{at, netTransistor, netCircuit}
 use Rattle.net.specs.Laid.{Laid}
-use Rattle.net.proofs.Laying.{nodes-length, transistors-length, node-at, transistor-at}
+use Rattle.net.proofs.Laying.{nodes-length, transistors-length, transistor-at}
 use Rattle.prepare.specs.Steps.{groupOf, ofLabel}
 
 -- labels that are nodes themselves
@@ -53,7 +54,7 @@ pub label-node : (c : Circuit) → LegalCell c → (n : ℕ) → IsNode (length 
 unfolding groups
 label-node c l n h =
     noded-link c (length (c .nodes)) (c .transistors) (nodeNumbers c) (all-legal l)
-    (record { size = length-upFrom (length (c .nodes)) 2; node = λ x hx. subst (IsNode (length (c .nodes))) (sym (first-label (length (c .nodes)) x hx)) hx })
+    (record { size = up-length (length (c .nodes)) 2; node = λ x hx. subst (IsNode (length (c .nodes))) (sym (first-label (length (c .nodes)) x hx)) hx })
     .node n h
 
 -- two ends, inner or not, and their labels
@@ -162,10 +163,6 @@ module _ (net : List ℕ) (k : Laid (netCircuit net) net) where
   -- it is the number of a node record
   pub laid-least : (n : ℕ) → n < 2 + at net 0 → isInner (netCircuit net) n ≡ true → 2 ≤ labelAt (groups (netCircuit net)) n
   laid-least n lt e = label-node (netCircuit net) laid-legal n (inner-node (netCircuit net) (length (netCircuit net .nodes)) n e (omega (arith, nodes-length net))) .least
-
-  -- an input, by its role
-  pub laid-input : (n : ℕ) → 2 ≤ n → n < 2 + at net 0 → isInput (netCircuit net) n ≡ eqb (at net (8 + (n - 2))) 1
-  laid-input n le lt = rw (le-leb 2 n le, node-at net (n - 2) (omega arith))
 
   -- a rail is none
   pub laid-rail : (n : ℕ) → n < 2 → isInput (netCircuit net) n ≡ false

@@ -1,7 +1,7 @@
 -- Laws of rule 2 over entries.
 use mathlib.Core.Path.{_≡_, refl, sym, _∙_, ap, subst}
 use mathlib.Core.Logic.{⊎-elim}
-use mathlib.Core.List.{List, [], _∷_, _++_, List·Memᴰ, List·Memᴰ·head, List·Memᴰ·tail}
+use mathlib.Core.List.{List, [], _∷_, _++_}
 use mathlib.Core.Bool.{Bool, true, false, not, _&&_, _||_, cond, and-false, or-false, or-assoc}
 use Prim.Native.Nat.{ℕ, zero, suc, _+_, _≤_, _<_}
 use native.Mathlib.Omega.{arith}
@@ -11,6 +11,7 @@ use lib.Seq.{take-suc, getD-set-same, getD-set-other}
 use lib.Dec.{ltb, eqb}
 use borrow.Author.Tests.{ne-eqb}
 use Rattle.lists.proofs.Cases.{eq-or-ne}
+use Rattle.lists.proofs.Count.{cond-le, cond-one}
 use Rattle.format.specs.declared.Transistor.{Transistor}
 use Rattle.format.specs.Circuit.{Circuit, noTransistor}
 use Rattle.format.proofs.Legal.{LegalTransistor, LegalCell}
@@ -27,6 +28,7 @@ use Rattle.working.specs.Many.{AllUsed, Filled}
 use Rattle.working.proofs.Grow.{is-zero, is-one, open-few, open-sound, grown-same, grown-then, grown-there, grown-number}
 use Rattle.working.proofs.Fill.{number-kept, means-own, means-zero, means-used, used-kept, filled-set, filled-same, filled-from}
 use Rattle.rules.specs.Group.{some}
+use Rattle.rules.proofs.Arrive.{some-same}
 use Rattle.rules.proofs.Label.{all-legal}
 use Rattle.prepare.specs.Steps.{Bits, one, ofLabel, disturbedBy, considered, touchedBy, differs, touchedLabel}
 
@@ -35,14 +37,6 @@ pub bit-back : (y : ℕ) → y ≤ 1 → y ≡ bit (eqb y 1)
 bit-back zero h = refl
 bit-back (suc zero) h = refl
 bit-back (suc (suc y)) h = absurd (omega arith)
-
-pub one-bit : (b : Bool) → eqb (bit b) 1 ≡ b
-one-bit true = refl
-one-bit false = refl
-
-pub bit-small : (b : Bool) → bit b ≤ 1
-bit-small true = omega arith
-bit-small false = omega arith
 
 -- three choices in a row
 three-bits : (z g a b : Bool) → cond (eqb (cond (eqb (cond z 1 (bit g)) 1) 1 (bit a)) 1) 1 (bit b) ≡ bit (z || ((g || a) || b))
@@ -88,12 +82,6 @@ some-append : {A : Type 0} (test : A → Bool) (xs : List A) (x : A) → some te
 unfolding some
 some-append test [] x = or-false (test x)
 some-append test (y ∷ ys) x = ap (λ (b : Bool). test y || b) (some-append test ys x) ∙ sym (or-assoc (test y) (some test ys) (test x))
-
--- equal tests on the elements
-pub some-same : {A : Type 0} (f g : A → Bool) (xs : List A) → ((x : A) → List·Memᴰ x xs → f x ≡ g x) → some f xs ≡ some g xs
-unfolding some
-some-same f g [] h = refl
-some-same f g (x ∷ xs) h = rw (h x (List·Memᴰ·head refl), some-same f g xs (λ y m. h y (List·Memᴰ·tail m)))
 
 module _ (c : Circuit) (only : ℕ) (changed : ℕ → Bool) (g : ℕ) where
   -- one transistor more
@@ -166,7 +154,7 @@ module _ {c : Circuit} {only letters : ℕ} {l0 w0 h0 ix0 : List ℕ} {used0 : �
   passing-entry g hg = means-used (s .filled .opened) (s .filled .means g hg)
 
   pub passing-bit : (g : ℕ) → g < 26 → (p : ℕ) → p < patterns letters → numberAt letters (tableOf (columns l w h) used) (getD out g 0) p ≤ 1
-  passing-bit g hg p hp = subst (λ (v : ℕ). v ≤ 1) (sym (s .filled .means g hg .number p hp)) (bit-small (touchedBy c only (λ n. one letters t0 (getD changed n 0) p) (take i (c .transistors)) g))
+  passing-bit g hg p hp = subst (λ (v : ℕ). v ≤ 1) (sym (s .filled .means g hg .number p hp)) (cond-le (touchedBy c only (λ n. one letters t0 (getD changed n 0) p) (take i (c .transistors)) g))
 
   -- one transistor more, of group g
   pub passing-next : (t : Transistor) (g : ℕ) {l2 w2 h2 ix2 : List ℕ} {r : Put} → getD (c .transistors) i noTransistor ≡ t → LegalTransistor (length (c .nodes)) t → length (c .nodes) ≤ 24 → i < length (c .transistors) → i < count → g < 26
@@ -195,7 +183,7 @@ module _ {c : Circuit} {only letters : ℕ} {l0 w0 h0 ix0 : List ℕ} {used0 : �
           ≡ bit (touchedBy c only (λ n. one letters t0 (getD changed n 0) p) (take (i + 1) (c .transistors)) g)
       same p hp =
           rw (old (t .gate) p (omega (arith, legal .gate-is)), old (t .first) p (omega (arith, legal .first-is)), old (t .second) p (omega (arith, legal .second-is)))
-          (ap (λ (v : Bool). bit (v || ((considered only g && ofLabel c g t) && disturbedBy c (λ n. one letters t0 (getD changed n 0) p) t))) (ap (λ (v : ℕ). eqb v 1) (s .filled .means g hg .number p hp) ∙ one-bit (touchedBy c only (λ n. one letters t0 (getD changed n 0) p) (take i (c .transistors)) g))
+          (ap (λ (v : Bool). bit (v || ((considered only g && ofLabel c g t) && disturbedBy c (λ n. one letters t0 (getD changed n 0) p) t))) (ap (λ (v : ℕ). eqb v 1) (s .filled .means g hg .number p hp) ∙ cond-one (touchedBy c only (λ n. one letters t0 (getD changed n 0) p) (take i (c .transistors)) g))
           ∙ ap bit (sym (then g p)))
 
       rest : (m p : ℕ) → m < 26 → (m ≡ g → ⊥) → p < patterns letters → bit (touchedBy c only (λ n. one letters t0 (getD changed n 0) p) (take i (c .transistors)) m) ≡ bit (touchedBy c only (λ n. one letters t0 (getD changed n 0) p) (take (i + 1) (c .transistors)) m)
@@ -267,11 +255,11 @@ touch-every {letters} c count t before after all only e o same =
 
 -- what changed is a bit
 if-bit : (a b : Bool) → cond a (bit b) 0 ≤ 1
-if-bit true b = bit-small b
+if-bit true b = cond-le b
 if-bit false b = omega arith
 
 if-one : (a b : Bool) → eqb (cond a (bit b) 0) 1 ≡ (a && b)
-if-one true b = one-bit b
+if-one true b = cond-one b
 if-one false b = refl
 
 module _ {letters : ℕ} {t0 : Table} (t : Table) (before after : List ℕ) (count : ℕ) {l w h ix : List ℕ} {used : ℕ} {entries : List ℕ}

@@ -1,4 +1,3 @@
 pub mod Filled
 pub mod Zeros
 pub mod Linked
-pub mod Every

@@ -1,85 +1,30 @@
 -- Laws of chains: their records lie within the file, and a walk along a chain finds it.
-use mathlib.Core.Path.{_≡_, refl, sym, _∙_, ap, subst}
-use mathlib.Core.Bool.{Bool, true, false, _&&_, cond, and-eq-true-iff}
+use mathlib.Core.Path.{_≡_, refl, sym, _∙_, ap}
+use mathlib.Core.Bool.{Bool, true, false, _&&_}
 use mathlib.Core.List.{List, [], _∷_, _++_}
 use mathlib.Core.Option.{Option, some, none}
-use Prim.Native.Nat.{ℕ, zero, suc, _+_, _-_, _*_, _<_, _≤_}
-use native.Mathlib.Nat.{not-suc-le-zero, le-of-suc-le-suc, sub-zero}
+use Prim.Native.Nat.{ℕ, suc, _+_, _-_, _*_, _<_, _≤_}
+use native.Mathlib.Nat.{sub-zero}
 use native.Mathlib.Omega.{arith}
-use lib.Dec.{eqb, leb}
+use lib.Dec.{eqb}
 use lib.ListN.{length, getD, take, set, replicate, length-append}
-use borrow.Author.Tests.{eq-eqb, ne-eqb, leb-true}
+use borrow.Author.Tests.{eq-eqb, ne-eqb}
 use Rattle.format.specs.Legal.{within}
 use Rattle.format.specs.File.{kindAt, nextAt, onto, chain}
+use Rattle.format.proofs.Chain.{chain-length, chain-member}
 use Rattle.records.specs.declared.Chain.{Chain}
 use Rattle.lists.specs.Padded.{padded}
 use Rattle.records.specs.Chain.{chainFound, Inside}
-use Rattle.lists.proofs.Cases.{and-left}
 use Rattle.lists.proofs.Padded.{padded-none, padded-first, padded-at, padded-put}
 
--- n record numbers, each of them from 1 to count
-pub record Linked (count n : ℕ) (rs : List ℕ) : Type 0 where
-  pub long : length rs ≡ n
-  pub member : (i : ℕ) → i < n → (1 ≤ getD rs i 0) × (getD rs i 0 ≤ count)
-
-never : {A B : Type 0} {x : B} → _≡_ {A = Option B} none (some x) → A
-never e = absurd (let z : _≡_ {A = ℕ} 0 1 = cc in omega arith)
-
-linked-end : (count : ℕ) (b : Bool) (rs : List ℕ) → cond b (some []) none ≡ some rs → Linked count 0 rs
-linked-end count true [] e = record { long = refl; member = λ i h. absurd (not-suc-le-zero h) }
-linked-end count true (r ∷ rs) e = absurd (let z : _≡_ {A = ℕ} 0 1 = cc in omega arith)
-linked-end count false rs e = never e
-
-linked-more : (count n r : ℕ) (rs : List ℕ) → 1 ≤ r → r ≤ count → Linked count n rs → Linked count (suc n) (r ∷ rs)
-linked-more count n r rs low high l = record { long = ap suc (l .long); member = at }
-  where
-    at : (i : ℕ) → i < suc n → (1 ≤ getD (r ∷ rs) i 0) × (getD (r ∷ rs) i 0 ≤ count)
-    at zero h = (low, high)
-    at (suc i) h = l .member i (le-of-suc-le-suc h)
-
--- what a chain's step has found
-record Step (b : Bool) (r : ℕ) (o : Option (List ℕ)) (rs : List ℕ) : Type 0 where
-  test : b ≡ true
-  rest : List ℕ
-  found : o ≡ some rest
-  same : r ∷ rest ≡ rs
-
-step : (b : Bool) (r : ℕ) (o : Option (List ℕ)) (rs : List ℕ) → cond b (onto r o) none ≡ some rs → Step b r o rs
-step true r none rs e = never e
-step true r (some qs) rs e = record { test = refl; rest = qs; found = refl; same = cc }
-step false r o rs e = never e
-
--- a record that is a link is from 1 to count
-pub link-bound : (file : List ℕ) (count kind r : ℕ) → (within 1 count r && eqb (kindAt file r) kind) ≡ true → (1 ≤ r) × (r ≤ count)
-link-bound file count kind r e =
-    let w = and-eq-true-iff (leb 1 r) (leb r count) .0 (and-left (within 1 count r) (eqb (kindAt file r) kind) e) in
-    (leb-true 1 r (w .0), leb-true r count (w .1))
-
--- a chain that is found has n records, each from 1 to count
-pub linked : (file : List ℕ) (count kind n r : ℕ) (rs : List ℕ) → chain file count kind n r ≡ some rs → Linked count n rs
-unfolding chain
-linked file count kind zero r rs e = linked-end count (eqb r 0) rs e
-linked file count kind (suc n) r rs e =
-    let s = step (within 1 count r && eqb (kindAt file r) kind) r (chain file count kind n (nextAt file r)) rs e in
-    let w = link-bound file count kind r (s .test) in
-    subst (Linked count (suc n)) (s .same)
-    (linked-more count n r (s .rest) (w .0) (w .1) (linked file count kind n (nextAt file r) (s .rest) (s .found)))
-
-pub chain-length : (file : List ℕ) (count kind n r : ℕ) (rs : List ℕ) → chain file count kind n r ≡ some rs → length rs ≡ n
-chain-length file count kind n r rs e = linked file count kind n r rs e .long
-
-pub chain-member : (file : List ℕ) (count kind n r : ℕ) (rs : List ℕ) → chain file count kind n r ≡ some rs → (i : ℕ) → i < n → (1 ≤ getD rs i 0) × (getD rs i 0 ≤ count)
-chain-member file count kind n r rs e = linked file count kind n r rs e .member
-
--- so its records lie within a file of count records
+-- the records of a chain lie within a file of count records
 pub chain-inside : (file : List ℕ) (count kind n r : ℕ) (rs : List ℕ) → 16 * (1 + count) ≤ length file → chain file count kind n r ≡ some rs → Inside file n (padded 64 0 rs)
 chain-inside file count kind n r rs h e = record { within = at }
   where
     at : (i : ℕ) → i < n → 16 * getD (padded 64 0 rs) i 0 + 16 ≤ length file
     at i g =
-        let l = linked file count kind n r rs e in
-        let k : i < length rs = rw (l .long) g in
-        rw (padded-at 64 0 rs i 0 k) (omega (arith, l .member i g))
+        let k : i < length rs = rw (chain-length file count kind n r rs e) g in
+        rw (padded-at 64 0 rs i 0 k) (omega (arith, chain-member file count kind n r rs e i g .most))
 
 pub chain-take : (file : List ℕ) (count kind n r : ℕ) (rs : List ℕ) → chain file count kind n r ≡ some rs → take n (padded 64 0 rs) ≡ rs
 chain-take file count kind n r rs e = padded-first 64 n 0 rs (chain-length file count kind n r rs e)
@@ -107,9 +52,6 @@ module _ (file : List ℕ) (count kind n r : ℕ) (records : List ℕ) (f : Foun
 
   pub found-take : take n records ≡ f .chained
   found-take = rw (f .padded-chain) (chain-take file count kind n r (f .chained) (f .some-chain))
-
-  pub found-length : length (f .chained) ≡ n
-  found-length = chain-length file count kind n r (f .chained) (f .some-chain)
 
 -- The walk: records put in front of what the rest of the chain gives.
 abbrev pub ahead : List ℕ → Option (List ℕ) → Option (List ℕ)

@@ -1,7 +1,7 @@
 -- Laws of step rule 1: what arrives at T, node by node; and a pattern for which nothing happens at T keeps its state.
 use mathlib.Core.Path.{_≡_, refl, sym, _∙_, ap}
 use mathlib.Core.Bool.{Bool, true, false, not, _&&_, cond, and-false}
-use mathlib.Core.List.{List, [], _∷_, map}
+use mathlib.Core.List.{List, [], _∷_, map, List·Memᴰ, List·Memᴰ·head, List·Memᴰ·tail}
 use Prim.Native.Nat.{ℕ, zero, suc, _-_, _%_, _≤_, _<_}
 use native.Mathlib.Omega.{arith}
 use lib.ListN.{length, getD}
@@ -127,6 +127,12 @@ pub some-none : {A : Type 0} (test : A → Bool) (xs : List A) → ((x : A) → 
 unfolding some
 some-none test [] h = refl
 some-none test (x ∷ xs) h = rw (h x) (some-none test xs h)
+
+-- tests that agree on each element
+pub some-same : {A : Type 0} (f g : A → Bool) (xs : List A) → ((x : A) → List·Memᴰ x xs → f x ≡ g x) → some f xs ≡ some g xs
+unfolding some
+some-same f g [] h = refl
+some-same f g (x ∷ xs) h = rw (h x (List·Memᴰ·head refl), some-same f g xs (λ y m. h y (List·Memᴰ·tail m)))
 
 module _ (c : Circuit) (s : State) where
   still : (n : ℕ) → changed s s n ≡ false

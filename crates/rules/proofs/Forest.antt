@@ -17,7 +17,8 @@ use Rattle.format.proofs.Legal.{LegalTransistor}
 use Rattle.rules.specs.State.{State, nodeNumbers}
 use Rattle.rules.specs.Group.{Labels, labelAt, joined, join, betweenInner}
 use Rattle.rules.specs.Kept.{Channel, conducts, keeps, afterKept, keptFrom, kept}
-use Rattle.rules.proofs.Label.{false-true, IsNode, AllLegal, ends-inner, Alike, length-join, join-keeps, join-links, length-upFrom, Linked, Linked·same, Linked·over}
+use Rattle.rules.proofs.State.{up-length}
+use Rattle.rules.proofs.Label.{false-true, IsNode, AllLegal, ends-inner, Alike, length-join, join-keeps, join-links, Linked, Linked·same, Linked·over}
 
 -- a kept channel between inner nodes
 abbrev pub Inner : Circuit → Channel → Type 0
@@ -191,7 +192,7 @@ unfolding kept
 kept-forest c s h =
     forest-from c s (length (c .nodes)) (c .transistors) (nodeNumbers c) 0 [] h
     (record {
-      size = length-upFrom (length (c .nodes)) 2;
+      size = up-length (length (c .nodes)) 2;
       sound = λ j m. absurd (List·Memᴰ·not-nil m);
       agree = λ j m. absurd (List·Memᴰ·not-nil m);
       forest = λ j m. absurd (List·Memᴰ·not-nil m);

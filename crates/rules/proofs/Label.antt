@@ -5,18 +5,18 @@ use mathlib.Core.Bool.{Bool, true, false, _||_, cond}
 use mathlib.Core.List.{List, [], _∷_, List·Memᴰ, List·Memᴰ·head, List·Memᴰ·tail, List·Memᴰ·not-nil, List·Memᴰ·cases-cons}
 use Prim.Native.Nat.{ℕ, zero, suc, _+_, _-_, _≤_, _<_}
 use native.Mathlib.Omega.{arith}
-use native.Mathlib.Nat.{le-of-suc-le-suc, not-suc-le-zero}
 use lib.ListN.{length, getD, length-map}
 use lib.Dec.{eqb, ltb}
 use borrow.Author.Tests.{ltb-false, eqb-true, not-true, eq-eqb, ne-eqb}
 use Rattle.lists.proofs.Cases.{bool-cases, eq-or-ne, and-left, and-right}
+use Rattle.lists.proofs.Map.{map-at}
 use Rattle.format.specs.declared.Transistor.{Transistor}
-use Rattle.format.specs.Circuit.{Circuit, noTransistor, every}
-use Rattle.format.specs.Legal.{isInput, transistorLegal}
-use Rattle.format.proofs.Every.{map-at, every-at}
-use Rattle.format.proofs.Legal.{LegalTransistor, LegalCell, legal-transistor-record}
+use Rattle.format.specs.Circuit.{Circuit, noTransistor}
+use Rattle.format.specs.Legal.{isInput}
+use Rattle.format.proofs.Legal.{LegalTransistor, LegalCell}
 use Rattle.rules.specs.State.{upFrom, nodeNumbers, isDriven, isInner}
 use Rattle.rules.specs.Group.{Labels, labelAt, joined, join, betweenInner, linkFrom, groups}
+use Rattle.rules.proofs.State.{up-length, up-at}
 
 -- no test passes and fails
 pub false-true : {A : Type 0} → false ≡ true → A
@@ -42,10 +42,6 @@ at-each P d [] h x m = absurd (List·Memᴰ·not-nil m)
 at-each {A} P d (y ∷ ys) h x m =
     let later : List·Memᴰ x ys → P x = λ at. at-each P d ys (λ i lt. h (suc i) (omega arith)) x at in
     ⊎-elim (λ (q : x ≡ y). subst P (sym q) (h zero (omega arith))) later (List·Memᴰ·cases-cons m)
-
--- where each passes the test
-pub every-legal : (nodes : ℕ) (ts : List Transistor) → every (transistorLegal nodes) ts ≡ true → AllLegal nodes ts
-every-legal nodes ts e = at-each (LegalTransistor nodes) noTransistor ts (λ i h. legal-transistor-record nodes (getD ts i noTransistor) (every-at (transistorLegal nodes) ts e noTransistor i h))
 
 -- a legal cell's transistors are legal
 pub all-legal : {c : Circuit} → LegalCell c → AllLegal (length (c .nodes)) (c .transistors)
@@ -173,21 +169,9 @@ join-exactly ls a b x y hx hy = (only, links)
     links (inr (inl p)) = alike-joined (join ls a b) x y (join-links ls a b x y hx hy (joined-alike ls x a (p .0)) (joined-alike ls y b (p .1)))
     links (inr (inr p)) = joined-sym (join ls a b) y x (alike-joined (join ls a b) y x (join-links ls a b y x hy hx (joined-alike ls y a (p .1)) (joined-alike ls x b (p .0))))
 
--- n numbers from k on
-pub length-upFrom : (n k : ℕ) → length (upFrom n k) ≡ n
-unfolding upFrom
-length-upFrom zero k = refl
-length-upFrom (suc n) k = ap suc (length-upFrom n (suc k))
-
-upFrom-at : (n k i d : ℕ) → i < n → getD (upFrom n k) i d ≡ k + i
-unfolding upFrom
-upFrom-at zero k i d h = absurd (not-suc-le-zero h)
-upFrom-at (suc n) k zero d h = omega arith
-upFrom-at (suc n) k (suc i) d h = upFrom-at n (suc k) i d (le-of-suc-le-suc h) ∙ omega arith
-
 -- at first each node's label is its number
 pub first-label : (nodes x : ℕ) → IsNode nodes x → labelAt (upFrom nodes 2) x ≡ x
-first-label nodes x h = upFrom-at nodes 2 (x - 2) x (omega arith) ∙ omega arith
+first-label nodes x h = up-at nodes 2 (x - 2) x (omega arith) ∙ omega arith
 
 -- and joins it to itself alone
 pub first-joined : (c : Circuit) (x y : ℕ) → IsNode (length (c .nodes)) x → IsNode (length (c .nodes)) y → Joined (nodeNumbers c) x y → x ≡ y
@@ -311,7 +295,7 @@ module _ (c : Circuit) (h : AllLegal (length (c .nodes)) (c .transistors)) where
   groups-only x y hx hy e =
       link-only c (length (c .nodes)) (c .transistors) (c .transistors) (nodeNumbers c) (λ t m. m) h
       (record {
-        size = length-upFrom (length (c .nodes)) 2;
+        size = up-length (length (c .nodes)) 2;
         only = λ u v hu hv same. Linked·same (first-joined c u v hu hv (alike-joined (nodeNumbers c) u v same));
       })
       .only x y hx hy (joined-alike (groups c) x y e)
@@ -320,7 +304,7 @@ module _ (c : Circuit) (h : AllLegal (length (c .nodes)) (c .transistors)) where
   unfolding groups
   between-alike {x} {y} b =
       let ends : Alike (groups c) (b .transistor .first) (b .transistor .second) =
-      link-joins c (length (c .nodes)) (b .transistor) (h (b .transistor) (b .listed)) (b .inner) (c .transistors) (nodeNumbers c) (length-upFrom (length (c .nodes)) 2) (b .listed) in
+      link-joins c (length (c .nodes)) (b .transistor) (h (b .transistor) (b .listed)) (b .inner) (c .transistors) (nodeNumbers c) (up-length (length (c .nodes)) 2) (b .listed) in
       ⊎-elim
       (λ (p : (b .transistor .first ≡ x) × (b .transistor .second ≡ y)). ap (labelAt (groups c)) (sym (p .0)) ∙ ends ∙ ap (labelAt (groups c)) (p .1))
       (λ (p : (b .transistor .first ≡ y) × (b .transistor .second ≡ x)). ap (labelAt (groups c)) (sym (p .1)) ∙ sym ends ∙ ap (labelAt (groups c)) (p .0))

@@ -27,16 +27,6 @@ abbrev pub touches : (ℕ → Bool) → Channel → Bool
 touches P k = P (k .transistor .first) || P (k .transistor .second)
 
 module _ (test : Channel → Bool) where
-  -- a channel that passes stays
-  pub only-take : (k : Channel) (ks : List Channel) → test k ≡ true → only test (k ∷ ks) ≡ k ∷ only test ks
-  unfolding only
-  only-take k ks e = rw e
-
-  -- another does not
-  pub only-leave : (k : Channel) (ks : List Channel) → test k ≡ false → only test (k ∷ ks) ≡ only test ks
-  unfolding only
-  only-leave k ks e = rw e
-
   -- those that pass are of the list
   pub only-listed : (ks : List Channel) (k : Channel) → List·Memᴰ k (only test ks) → List·Memᴰ k ks
   unfolding only

@@ -2,21 +2,23 @@
 -- which pairs are joined, and the transistors that it keeps are the kept ones.
 use mathlib.Core.Path.{_≡_, refl, sym, _∙_, ap, subst, subst₂}
 use mathlib.Core.Logic.{_⊎_, inl, inr, ⊎-elim}
-use mathlib.Core.Bool.{Bool, true, false, not, _&&_, _||_, cond, and-true, and-false, or-true, or-false}
+use mathlib.Core.Bool.{Bool, true, false, not, _&&_, _||_, cond, and-true, and-false, or-false}
 use mathlib.Core.List.{List, [], _∷_, List·Memᴰ, List·Memᴰ·head, List·Memᴰ·tail}
 use Prim.Native.Nat.{ℕ, zero, suc, _+_, _≤_, _<_}
 use native.Mathlib.Omega.{arith}
 use lib.ListN.{length, getD}
 use lib.Dec.{eqb}
 use borrow.Author.Tests.{eqb-true, eq-eqb, ne-eqb}
-use Rattle.lists.proofs.Cases.{bool-cases, and-left, and-right, and-both, true-false}
+use Rattle.lists.proofs.Cases.{bool-cases, and-left, and-right, and-both, or-cases, or-left, or-right, true-false, bool-ext}
+pub use Rattle.lists.proofs.Cases.{or-right as or-second}
 use Rattle.format.specs.declared.Transistor.{Transistor}
 use Rattle.format.specs.Circuit.{Circuit, noTransistor}
 use Rattle.format.proofs.Legal.{LegalTransistor, LegalCell}
 use Rattle.rules.specs.State.{State, nodeNumbers, isInner}
 use Rattle.rules.specs.Group.{Labels, joined, join, betweenInner, groups, inGroup, ofGroup, some}
 use Rattle.rules.specs.Kept.{Channel, conducts, keeps, afterKept, keptFrom, kept}
-use Rattle.rules.proofs.Label.{IsNode, Joined, Through, join-exactly, joined-alike, joined-sym, joined-refl, first-joined, ends-inner, length-join, length-upFrom, all-legal, groups-join, Linked·same, Linked·over}
+use Rattle.rules.proofs.State.{up-length}
+use Rattle.rules.proofs.Label.{IsNode, Joined, Through, join-exactly, joined-alike, joined-sym, joined-refl, first-joined, ends-inner, length-join, all-legal, groups-join, Linked·same, Linked·over}
 
 -- transistor i is kept
 unfoldable pub isKept : Circuit → State → ℕ → Bool
@@ -54,23 +56,6 @@ matrixAt c s looked (suc i) = afterHeld c s (looked i) (matrixAt c s looked i) (
 abbrev pub isHeld : Circuit → State → (ℕ → Bool) → ℕ → Bool
 isHeld c s looked i = holds c s (looked i) (matrixAt c s looked i) (transistorAt c i)
 
--- two tests that pass together are one
-bool-ext : (x y : Bool) → (x ≡ true → y ≡ true) → (y ≡ true → x ≡ true) → x ≡ y
-bool-ext true y f g = sym (f refl)
-bool-ext false true f g = g refl
-bool-ext false false f g = refl
-
--- a disjunction passes in its first part, or in its second
-pub or-cases : (x y : Bool) → x || y ≡ true → (x ≡ true) ⊎ (y ≡ true)
-or-cases true y e = inl refl
-or-cases false y e = inr e
-
-pub or-first : (x y : Bool) → x ≡ true → x || y ≡ true
-or-first x y e = rw e
-
-pub or-second : (x y : Bool) → y ≡ true → x || y ≡ true
-or-second x y e = rw e (or-true x)
-
 not-passed : (x : Bool) → (x ≡ true → ⊥) → x ≡ false
 not-passed true h = absurd (h refl)
 not-passed false h = refl
@@ -82,12 +67,12 @@ join-test ls a b x y hx hy = bool-ext (joined (join ls a b) x y) (linked true a 
     there : joined (join ls a b) x y ≡ true → linked true a b (joined ls) x y ≡ true
     there e =
         ⊎-elim
-        (λ (p : Joined ls x y). or-first (joined ls x y) _ p)
+        (λ (p : Joined ls x y). or-left (joined ls x y) _ p)
         (λ (q : (Joined ls x a × Joined ls y b) ⊎ (Joined ls x b × Joined ls y a)).
-        or-second (joined ls x y) _
+        or-right (joined ls x y) _
         (⊎-elim
-        (λ (p : Joined ls x a × Joined ls y b). or-first (joined ls x a && joined ls b y) _ (and-both (joined ls x a) (joined ls b y) (p .0) (joined-sym ls y b (p .1))))
-        (λ (p : Joined ls x b × Joined ls y a). or-second (joined ls x a && joined ls b y) _ (and-both (joined ls x b) (joined ls a y) (p .0) (joined-sym ls y a (p .1))))
+        (λ (p : Joined ls x a × Joined ls y b). or-left (joined ls x a && joined ls b y) _ (and-both (joined ls x a) (joined ls b y) (p .0) (joined-sym ls y b (p .1))))
+        (λ (p : Joined ls x b × Joined ls y a). or-right (joined ls x a && joined ls b y) _ (and-both (joined ls x b) (joined ls a y) (p .0) (joined-sym ls y a (p .1))))
         q))
         (join-exactly ls a b x y hx hy .0 e)
 
@@ -303,7 +288,7 @@ module _ (c : Circuit) (l : LegalCell c) (s : State) (looked member : ℕ → Bo
     (together : (i : ℕ) → i < length (c .transistors) → betweenInner c (transistorAt c i) ≡ true → member (transistorAt c i .first) ≡ member (transistorAt c i .second))
     (seen : (i : ℕ) → i < length (c .transistors) → betweenInner c (transistorAt c i) ≡ true → member (transistorAt c i .first) ≡ true → looked i ≡ true) where
   first-agrees : Agrees (length (c .nodes)) member (nodeNumbers c) identity
-  first-agrees = record { size = length-upFrom (length (c .nodes)) 2; row = λ x y hx hy m. same x y hx hy; column = λ x y hx hy m. same x y hx hy; closed = λ x y hx hy m e. subst (λ (z : ℕ). member z ≡ true) (first-joined c x y hx hy e) m }
+  first-agrees = record { size = up-length (length (c .nodes)) 2; row = λ x y hx hy m. same x y hx hy; column = λ x y hx hy m. same x y hx hy; closed = λ x y hx hy m e. subst (λ (z : ℕ). member z ≡ true) (first-joined c x y hx hy e) m }
     where
       same : (x y : ℕ) → IsNode (length (c .nodes)) x → IsNode (length (c .nodes)) y → eqb x y ≡ joined (nodeNumbers c) x y
       same x y hx hy =
@@ -359,5 +344,5 @@ module _ (c : Circuit) (l : LegalCell c) (n : ℕ) where
   -- Where a group's transistors are all looked at, the matrix keeps exactly those of them that are kept, whatever it does with the others.
   pub group-kept : (s : State) (looked : ℕ → Bool) → LookedAt c looked n → (i : ℕ) → i < length (c .transistors) → ofGroup c n (transistorAt c i) ≡ true → isHeld c s looked i ≡ isKept c s i
   group-kept s looked seen i h o =
-      held c l s looked (inGroup c n) group-together (λ k g b m. seen k g (or-first (inGroup c n (transistorAt c k .first)) _ m)) i h (seen i h o)
+      held c l s looked (inGroup c n) group-together (λ k g b m. seen k g (or-left (inGroup c n (transistorAt c k .first)) _ m)) i h (seen i h o)
       (λ b. ⊎-elim (λ m. m) (λ m. group-together i h b ∙ m) (or-cases (inGroup c n (transistorAt c i .first)) (inGroup c n (transistorAt c i .second)) o))

@@ -10,11 +10,12 @@ use lib.Seq.{ext-getD}
 use lib.Dec.{leb, ltb, eqb}
 use borrow.Author.Tests.{ltb-true, leb-true, eqb-true, lt-ltb, le-leb, eq-eqb}
 use Rattle.refusal.specs.Answer.{answered}
-use Rattle.lists.proofs.Cases.{and-left, and-right, and-both}
+use Rattle.lists.proofs.Cases.{and-left, and-right, and-both, or-cases, or-left, or-right}
 use Rattle.lists.proofs.Below.{below-each, each-below}
+use Rattle.lists.proofs.Map.{map-at}
 use Rattle.format.specs.Circuit.{Circuit, firstNodeNumber, every}
 use Rattle.format.specs.Legal.{isInput, checkCircuit}
-use Rattle.format.proofs.Every.{map-at, every-at, every-of}
+use Rattle.format.proofs.Every.{every-at, every-of}
 use Rattle.format.proofs.Legal.{legal-limits}
 use Rattle.diagram.specs.Pattern.{mostLetters, patterns}
 use Rattle.diagram.specs.Table.{Table, never, numberAt}
@@ -92,11 +93,6 @@ module _ (c : Circuit) (time : ℕ) (states : ℕ → State) (t : Table) where
   unfolding momentOf
   moment-time = refl
 
-  -- its used count is its table's length
-  pub moment-used : momentOf c time states t .run .used ≡ length (momentOf c time states t .table)
-  unfolding momentOf
-  moment-used = refl
-
   -- what the values add comes before what the next changes add: the values' table is the first part of the moment's, and holds the values' entries
   pub values-first : c .letters ≤ mostLetters → Sound (c .letters) t
       → Extends t (storedValues c states t .table) × Extends (storedValues c states t .table) (momentOf c time states t .table)
@@ -171,18 +167,6 @@ pub record RunSound (c : Circuit) (t : Table) (r : Run) : Type 0 where
       → Later c (r .time) (numberAt (c .letters) t (getD (r .changes) i 0) p)
   pub inputs-rest : (i : ℕ) → i < length (c .nodes) → isInput c (firstNodeNumber + i) ≡ true → getD (r .changes) i 0 ≡ neverEntry
 
--- one test or the other
-either : (a b : Bool) → (a || b) ≡ true → (a ≡ true) ⊎ (b ≡ true)
-either true b e = inl refl
-either false b e = inr e
-
-or-left : (a b : Bool) → a ≡ true → (a || b) ≡ true
-or-left a b e = rw e
-
-or-right : (a b : Bool) → b ≡ true → (a || b) ≡ true
-or-right true b e = refl
-or-right false b e = e
-
 -- a test that must pass where another does
 implied : (a b : Bool) → (not a || b) ≡ true → a ≡ true → b ≡ true
 implied true b e h = e
@@ -204,7 +188,7 @@ module _ (c : Circuit) (t : Table) (now e : ℕ) where
         ltb-true now n (and-left (ltb now n) (leb n (c .horizon .0)) z),
         leb-true n (c .horizon .0) (and-right (ltb now n) (leb n (c .horizon .0)) z),
       ))
-      (either (eqb n never) (ltb now n && leb n (c .horizon .0))
+      (or-cases (eqb n never) (ltb now n && leb n (c .horizon .0))
       (below-each (patterns (c .letters))
       (λ q. eqb (numberAt (c .letters) t e q) never || (ltb now (numberAt (c .letters) t e q) && leb (numberAt (c .letters) t e q) (c .horizon .0)))
       h p l))

@@ -5,9 +5,8 @@ use mathlib.Core.Logic.{_⊎_, inl, inr, ⊎-elim, ⊎-map}
 use mathlib.Core.Bool.{Bool, true, false, not, _&&_, cond, and-false}
 use mathlib.Core.Option.{Option, some, none}
 use mathlib.Core.List.{List, [], _∷_, _++_, List·Memᴰ, List·Memᴰ·head, List·Memᴰ·tail, List·Memᴰ·not-nil, List·Memᴰ·append-cases, List·Memᴰ·eq-of-singleton}
-use Prim.Native.Nat.{ℕ, zero, suc, _+_, _-_, _*_, _^_, _≤_, _<_}
+use Prim.Native.Nat.{ℕ, zero, suc, _+_, _-_, _*_, _≤_, _<_}
 use native.Mathlib.Omega.{arith}
-use native.Mathlib.Nat.{le-refl, le-trans}
 use lib.ListN.{length, length-append, List·getD-eq-default}
 use lib.Dec.{eqb, ltb}
 use borrow.Author.Tests.{not-true}
@@ -30,7 +29,7 @@ use Rattle.rules.specs.Sum.{Sum, leads, farEnd, overArms, drivenSum, own
 use Rattle.rules.specs.Delay.{Load, ownLoad, loadArm, joinLoads, nodeLoad}
 use Rattle.rules.proofs.Label.{IsNode, all-legal, inner-node}
 use Rattle.rules.proofs.Forest.{Inner, Cut, Rising}
-use Rattle.rules.proofs.Walk.{Rule, walk, sumRule, loadRule, arms-related, arms-all, arms-same, walk-related, sum-walk, load-walk, walk-driven, Distinct, distinct-length, Ends, leads-ends, ends-to, ends-from, ends-both, number-one, Kept, kept-kept, Way, way-root, step-inner, step-new, way-step, arms-append, arms-take, sumOver, loadOver, sum-driven, sum-own, sum-arms, load-driven, load-own, load-arms}
+use Rattle.rules.proofs.Walk.{Rule, walk, sumRule, loadRule, arms-all, walk-related, sum-walk, load-walk, walk-driven, Distinct, distinct-length, Ends, leads-ends, ends-to, ends-from, ends-both, number-one, Kept, kept-kept, Way, way-root, step-inner, step-new, way-step, sum-driven, sum-own, sum-arms, load-driven, load-own, load-arms}
 
 -- the rule of the inner nodes that a walk comes to, in order, as often as it does
 abbrev pub passRule : Rule (List ℕ)
@@ -215,47 +214,12 @@ reachRule = record { driven = λ n. 0; own = λ n. 1; add = λ v k far. v + far 
 abbrev pub reach : Circuit → List Channel → ℕ → Option ℕ → ℕ → ℕ
 reach c ks a from n = walk c ks reachRule a from n
 
--- and how many it comes to at a node and over some of its channels
-abbrev pub reachOver : Circuit → List Channel → ℕ → Option ℕ → ℕ → List Channel → ℕ
-reachOver c ks a from n some-arms = overArms (leads from n) (λ (v : ℕ) (k : Channel). v + reach c ks a (some (k .number)) (farEnd n k)) 1 some-arms
-
--- arms add and take nothing away
-arms-grow : (away : Channel → Bool) (g : Channel → ℕ) (ks : List Channel) (o : ℕ) → o ≤ overArms away (λ (v : ℕ) (k : Channel). v + g k) o ks
-unfolding overArms
-arms-grow away g [] o = le-refl o
-arms-grow away g (k ∷ ks) o = le-trans (by (away k)) (arms-grow away g ks (cond (away k) (o + g k) o))
-  where
-    by : (b : Bool) → o ≤ cond b (o + g k) o
-    by true = omega arith
-    by false = le-refl o
-
 module _ (c : Circuit) (ks : List Channel) where
   reach-length : (a : ℕ) (from : Option ℕ) (n : ℕ) → reach c ks a from n ≡ length (passed c ks a from n)
   reach-length a from n =
       walk-related (λ (v : ℕ) (l : List ℕ). v ≡ length l) c ks reachRule passRule (λ m e. refl) (λ m e. refl)
       (λ k m v x w y p q. let z : length (w ++ y) ≡ length w + length y = length-append w y in omega arith)
       a from n
-
-  -- what a node's arms come to
-  pub reach-arms : (a : ℕ) (from : Option ℕ) (n : ℕ) → isDriven c n ≡ false → reach c ks (suc a) from n ≡ reachOver c ks a from n ks
-  unfolding walk
-  reach-arms a from n e = rw e
-
-  -- the arms before one and that one come to no more than all
-  pub reach-part : (a : ℕ) (from : Option ℕ) (n : ℕ) → isDriven c n ≡ false → (before : List Channel) (k : Channel) (behind : List Channel) → ks ≡ before ++ k ∷ behind → leads from n k ≡ true
-      → reachOver c ks a from n before + reach c ks a (some (k .number)) (farEnd n k) ≤ reach c ks (suc a) from n
-  reach-part a from n d before k behind e l =
-      let g : Channel → ℕ = λ j. reach c ks a (some (j .number)) (farEnd n j) in
-      let f : ℕ → Channel → ℕ = λ v j. v + g j in
-      let whole : reach c ks (suc a) from n ≡ overArms (leads from n) f (reachOver c ks a from n before + g k) behind =
-      reach-arms a from n d ∙ ap (overArms (leads from n) f 1) e ∙ arms-append (leads from n) f 1 before (k ∷ behind) ∙ arms-take (leads from n) f (reachOver c ks a from n before) k behind l in
-      omega (arith, whole, arms-grow (leads from n) g behind (reachOver c ks a from n before + g k))
-
-  -- an arm comes to fewer than the node
-  pub reach-arm : (a : ℕ) (from : Option ℕ) (n : ℕ) → isDriven c n ≡ false → (before : List Channel) (k : Channel) (behind : List Channel) → ks ≡ before ++ k ∷ behind → leads from n k ≡ true
-      → reach c ks a (some (k .number)) (farEnd n k) < reach c ks (suc a) from n
-  reach-arm a from n d before k behind e l =
-      omega (arith, reach-part a from n d before k behind e l, arms-grow (leads from n) (λ (j : Channel). reach c ks a (some (j .number)) (farEnd n j)) before 1)
 
   module _ (h : Kept c ks) where
     -- a walk on a way comes to no more inner nodes than there are node records
@@ -303,15 +267,6 @@ module _ {A : Type 0} (r : Rule A) (m : A → ℕ) (q : Charge r m) (c : Circuit
       (λ k _ v x w y p s. omega (arith, q .add k v x))
       a from n
 
-  -- and so after some of a node's arms
-  pub charge-over : (a : ℕ) (from : Option ℕ) (n : ℕ) (some-arms : List Channel)
-      → m (overArms (leads from n) (λ (v : A) (k : Channel). r .add v k (walk c ks r a (some (k .number)) (farEnd n k))) (r .own n) some-arms) ≤ mostCapacitance * reachOver c ks a from n some-arms
-  charge-over a from n some-arms =
-      arms-related (λ (v : A) (w : ℕ). m v ≤ mostCapacitance * w) (leads from n)
-      (λ (v : A) (k : Channel). r .add v k (walk c ks r a (some (k .number)) (farEnd n k))) (λ (v : ℕ) (k : Channel). v + reach c ks a (some (k .number)) (farEnd n k)) some-arms
-      (λ k _ _ v w p. omega (arith, q .add k v (walk c ks r a (some (k .number)) (farEnd n k)), charge-reach a (some (k .number)) (farEnd n k)))
-      (r .own n) 1 (omega (arith, q .own n))
-
 -- both charges of a sum
 abbrev pub total : Sum → ℕ
 total v = v .highCharge .0 + v .lowCharge .0
@@ -337,56 +292,16 @@ module _ (c : Circuit) (s : State) (l : Limited c) where
       own-most true f h = omega arith
       own-most false f h = h
 
--- they are the walk's
-sum-over-walk : (a : ℕ) (c : Circuit) (s : State) (ks : List Channel) (from : Option ℕ) (n : ℕ) (some-arms : List Channel)
-    → sumOver a c s ks from n some-arms ≡ overArms (leads from n) (λ (v : Sum) (k : Channel). sumRule c s .add v k (walk c ks (sumRule c s) a (some (k .number)) (farEnd n k))) (sumRule c s .own n) some-arms
-sum-over-walk a c s ks from n some-arms =
-    arms-same (leads from n) _ _ some-arms (λ k m e v. ap (λ (far : Sum). joinSums v (armOf (k .transistor) far)) (sum-walk c s ks a (some (k .number)) (farEnd n k))) (sumRule c s .own n)
-
-load-over-walk : (a new : ℕ) (c : Circuit) (s : State) (ks : List Channel) (from : Option ℕ) (n : ℕ) (some-arms : List Channel)
-    → loadOver a new c s ks from n some-arms ≡ overArms (leads from n) (λ (v : Load) (k : Channel). loadRule new c s .add v k (walk c ks (loadRule new c s) a (some (k .number)) (farEnd n k))) (loadRule new c s .own n) some-arms
-load-over-walk a new c s ks from n some-arms =
-    arms-same (leads from n) _ _ some-arms (λ k m e v. ap (λ (far : Load). joinLoads v (loadArm (k .transistor) far)) (load-walk new c s ks a (some (k .number)) (farEnd n k))) (loadRule new c s .own n)
-
 module _ (c : Circuit) (s : State) (l : Limited c) (ks : List Channel) (a : ℕ) (from : Option ℕ) (n : ℕ) where
   -- the charges of a node sum by the inner nodes that its walk comes to
   pub sum-reach : total (nodeSum a c s ks from n) ≤ mostCapacitance * reach c ks a from n
   sum-reach = subst (λ (v : Sum). total v ≤ mostCapacitance * reach c ks a from n) (sym (sum-walk c s ks a from n)) (charge-reach (sumRule c s) total (sum-charge c s l) c ks a from n)
-
-  -- after some of its arms
-  pub sum-over-reach : (some-arms : List Channel) → total (sumOver a c s ks from n some-arms) ≤ mostCapacitance * reachOver c ks a from n some-arms
-  sum-over-reach some-arms =
-      subst (λ (v : Sum). total v ≤ mostCapacitance * reachOver c ks a from n some-arms) (sym (sum-over-walk a c s ks from n some-arms)) (charge-over (sumRule c s) total (sum-charge c s l) c ks a from n some-arms)
 
   -- the charge of a delay walk
   pub load-reach : (new : ℕ) → nodeLoad a new c s ks from n .charge .0 ≤ mostCapacitance * reach c ks a from n
   load-reach new =
       subst (λ (v : Load). v .charge .0 ≤ mostCapacitance * reach c ks a from n) (sym (load-walk new c s ks a from n))
       (charge-reach (loadRule new c s) (λ (v : Load). v .charge .0) (load-charge c s l new) c ks a from n)
-
-  -- after some of its arms
-  pub load-over-reach : (new : ℕ) (some-arms : List Channel) → loadOver a new c s ks from n some-arms .charge .0 ≤ mostCapacitance * reachOver c ks a from n some-arms
-  load-over-reach new some-arms =
-      subst (λ (v : Load). v .charge .0 ≤ mostCapacitance * reachOver c ks a from n some-arms) (sym (load-over-walk a new c s ks from n some-arms))
-      (charge-over (loadRule new c s) (λ (v : Load). v .charge .0) (load-charge c s l new) c ks a from n some-arms)
-
-module _ (c : Circuit) (s : State) (l : Limited c) (ks : List Channel) (a : ℕ) (from : Option ℕ) (n : ℕ) (inner : isDriven c n ≡ false)
-    (before : List Channel) (k : Channel) (behind : List Channel) (e : ks ≡ before ++ k ∷ behind) (away : leads from n k ≡ true) (few : reach c ks (suc a) from n ≤ mostNodes) where
-  -- the charges of an arm may be joined to those of the arms before it
-  pub sum-fits : total (sumOver a c s ks from n before) + total (nodeSum a c s ks (some (k .number)) (farEnd n k)) < 2 ^ 32
-  sum-fits = omega (arith, reach-part c ks a from n inner before k behind e away, sum-over-reach c s l ks a from n before, sum-reach c s l ks a (some (k .number)) (farEnd n k))
-
-  -- and what an arm of the delay walk passes on
-  pub load-fits : (new : ℕ)
-      → loadOver a new c s ks from n before .charge .0 + loadArm (k .transistor) (nodeLoad a new c s ks (some (k .number)) (farEnd n k)) .charge .0 < 2 ^ 32
-  load-fits new =
-      omega (
-        arith,
-        reach-part c ks a from n inner before k behind e away,
-        load-over-reach c s l ks a from n new before,
-        load-reach c s l ks a (some (k .number)) (farEnd n k) new,
-        share-at-most (k .transistor .resistance) (nodeLoad a new c s ks (some (k .number)) (farEnd n k) .resistance) (nodeLoad a new c s ks (some (k .number)) (farEnd n k) .charge),
-      )
 
 module _ (c : Circuit) (legal : LegalCell c) (s : State) (a n : ℕ) (i : n < 2 + length (c .nodes)) where
   -- a walk over the kept channels of a legal cell comes to 24 inner nodes at most
@@ -416,10 +331,6 @@ pub record SumOfArm (v : Sum) : Type 0 where
 -- no channel of the list is without resistance
 abbrev pub Resistive : List Channel → Type 0
 Resistive ks = (k : Channel) → List·Memᴰ k ks → 1 ≤ k .transistor .resistance .0
-
--- the kept channels of a legal cell
-pub kept-resistive : {c : Circuit} {ks : List Channel} → Kept c ks → Resistive ks
-kept-resistive h k m = h .legal k m .least
 
 infinite-in-range : InRange Infinite
 infinite-in-range = record { positive = tt; atMost = tt }

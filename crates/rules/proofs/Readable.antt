@@ -9,9 +9,9 @@ use lib.Dec.{ltb}
 use Rattle.refusal.specs.declared.Refusal.the-variants.{Question, Finished}
 use Rattle.refusal.specs.Answer.{answered, check}
 use Rattle.lists.proofs.Cases.{and-left, and-right, and-both}
+use Rattle.lists.proofs.Map.{map-same}
 use Rattle.format.specs.Circuit.{Circuit, firstNodeNumber}
 use Rattle.format.specs.Legal.{checkCircuit}
-use Rattle.format.proofs.Every.{map-same}
 use Rattle.diagram.specs.Pattern.{mostLetters, patterns}
 use Rattle.diagram.specs.Table.{Table, never, numberAt}
 use Rattle.diagram.specs.Call.{Columns, leastEntries, mostEntries, lengthsLegal, tableOf, columnsOf, columnsSound}

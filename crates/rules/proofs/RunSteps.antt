@@ -10,10 +10,10 @@ use borrow.Author.Tests.{lt-ltb, le-ltb, le-leb, lt-leb}
 use Rattle.refusal.specs.declared.Refusal.{Refusal}
 use Rattle.refusal.specs.declared.Refusal.the-variants.{Full}
 use Rattle.refusal.specs.Answer.{Answer, refused, answered}
+use Rattle.refusal.proofs.Answer.{refused-not-answered, same-answer}
 use Rattle.lists.proofs.Cases.{lt-or-ge}
 use Rattle.format.specs.Circuit.{Circuit}
 use Rattle.format.specs.Legal.{checkCircuit}
-use Rattle.format.proofs.Check.{refused-not-answered, same-answer}
 use Rattle.format.proofs.Legal.{legal-limits}
 use Rattle.diagram.specs.Table.{never}
 use Rattle.diagram.proofs.Add.{Extends, extends-refl, extends-trans}

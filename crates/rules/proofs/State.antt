@@ -2,16 +2,16 @@
 use mathlib.Core.Path.{_≡_, refl, sym, _∙_, ap}
 use mathlib.Core.Logic.{_⊎_, inl, inr, ⊎-elim}
 use mathlib.Core.Bool.{true}
-use mathlib.Core.List.{List, map, List·Memᴰ, List·Memᴰ·head, List·Memᴰ·tail, List·Memᴰ·cases-cons, List·Memᴰ·not-nil}
+use mathlib.Core.List.{List, map}
 use Prim.Native.Nat.{ℕ, zero, suc, _+_, _-_, _≤_, _<_}
 use native.Mathlib.Omega.{arith}
-use lib.ListN.{length, getD, length-map, List·getD-eq-default}
+use lib.ListN.{length, getD, length-map}
 use lib.Seq.{ext-getD}
 use borrow.Author.Tests.{lt-ltb, le-ltb}
 use Rattle.lists.proofs.Cases.{lt-or-ge}
+use Rattle.lists.proofs.Map.{map-at}
 use Rattle.format.specs.Circuit.{Circuit, firstNodeNumber}
 use Rattle.format.specs.Legal.{isInput}
-use Rattle.format.proofs.Every.{map-at}
 use Rattle.diagram.specs.Table.{never}
 use Rattle.rules.specs.State.{State, valueAt, changeAt, upFrom, nodeNumbers}
 
@@ -46,34 +46,6 @@ unfolding upFrom
 up-at zero k i d h = absurd (omega arith)
 up-at (suc n) k zero d h = omega arith
 up-at (suc n) k (suc i) d h = up-at n (suc k) i d (omega arith) ∙ omega arith
-
--- each of n numbers from k on is at least k and below k + n
-pub up-within : (n k x : ℕ) → List·Memᴰ x (upFrom n k) → (k ≤ x) × (x < k + n)
-unfolding upFrom
-up-within zero k x m = absurd (List·Memᴰ·not-nil m)
-up-within (suc n) k x m =
-    ⊎-elim
-    (λ (e : x ≡ k). omega arith)
-    (λ (t : List·Memᴰ x (upFrom n (suc k))). let w : (suc k ≤ x) × (x < suc k + n) = up-within n (suc k) x t in omega arith)
-    (List·Memᴰ·cases-cons m)
-
--- and each such number is among them
-pub up-has : (n k x : ℕ) → k ≤ x → x < k + n → List·Memᴰ x (upFrom n k)
-unfolding upFrom
-up-has zero k x l h = absurd (omega arith)
-up-has (suc n) k x l h =
-    ⊎-elim
-    (λ (g : k < x). List·Memᴰ·tail (up-has n (suc k) x g (omega arith)))
-    (λ (g : x ≤ k). List·Memᴰ·head (omega arith))
-    (lt-or-ge k x)
-
--- what stands among the node numbers is the number of a record
-pub numbers-within : (c : Circuit) (n : ℕ) → List·Memᴰ n (nodeNumbers c) → Numbered c n
-numbers-within c n m = let w = up-within (length (c .nodes)) 2 n m in record { least = w .0; most = w .1 }
-
--- and the number of each record is among them
-pub numbers-has : (c : Circuit) (n : ℕ) → Numbered c n → List·Memᴰ n (nodeNumbers c)
-numbers-has c n h = up-has (length (c .nodes)) 2 n (h .least) (h .most)
 
 -- the number of the record at a place
 pub at-place : (c : Circuit) (i : ℕ) → i < length (c .nodes) → Numbered c (2 + i)
@@ -111,21 +83,9 @@ value-place s n h = rw (le-ltb n 2 h)
 pub change-place : (s : State) (n : ℕ) → firstNodeNumber ≤ n → changeAt s n ≡ getD (s .changes) (n - 2) never
 change-place s n h = rw (le-ltb n 2 h)
 
--- ground is low
-pub ground-value : (s : State) → valueAt s 0 ≡ 0
-ground-value s = refl
-
--- supply is high
-pub supply-value : (s : State) → valueAt s 1 ≡ 1
-supply-value s = refl
-
 -- a rail's value is its number
 pub rail-value : (s : State) (n : ℕ) → n < firstNodeNumber → valueAt s n ≡ n
 rail-value s n h = rw (lt-ltb n 2 h)
-
--- a rail has no next change
-pub rail-change : (s : State) (n : ℕ) → n < firstNodeNumber → changeAt s n ≡ never
-rail-change s n h = rw (lt-ltb n 2 h)
 
 module _ (c : Circuit) (s : State) where
   -- the value of a node in a state whose values are a function of the node
@@ -149,18 +109,6 @@ module _ (c : Circuit) (s : State) where
     pub changes-eta : s .changes ≡ map (changeAt s) (nodeNumbers c)
     changes-eta = numbers-eta c (changeAt s) never (s .changes) (sh .changes-long) (λ n h. sym (change-place s n (h .least)))
 
-    -- a state is what it says of each node
-    pub state-eta : s ≡ record { values = map (valueAt s) (nodeNumbers c); changes = map (changeAt s) (nodeNumbers c) }
-    state-eta = λ i. record { values = values-eta i; changes = changes-eta i }
-
-    -- past the node records there is no next change
-    pub past-change : (n : ℕ) → firstNodeNumber + length (c .nodes) ≤ n → changeAt s n ≡ never
-    past-change n h = change-place s n (omega arith) ∙ List·getD-eq-default (s .changes) never {n = n - 2} (omega (arith, sh .changes-long))
-
-    -- and every value is 0
-    pub past-value : (n : ℕ) → firstNodeNumber + length (c .nodes) ≤ n → valueAt s n ≡ 0
-    past-value n h = value-place s n (omega arith) ∙ List·getD-eq-default (s .values) 0 {n = n - 2} (omega (arith, sh .values-long))
-
 -- states that agree at each node are equal
 pub state-ext : (c : Circuit) (s t : State) → Shaped c s → Shaped c t → ((n : ℕ) → Numbered c n → valueAt s n ≡ valueAt t n) → ((n : ℕ) → Numbered c n → changeAt s n ≡ changeAt t n) → s ≡ t
 state-ext c s t p q hv hc =
@@ -179,13 +127,3 @@ node-cases c n =
     (λ (g : 2 + length (c .nodes) ≤ n). inr (inr g))
     (lt-or-ge n (2 + length (c .nodes))))
     (lt-or-ge n 2)
-
--- values are 0 or 1 at every number, rails among them
-pub bits-all : (c : Circuit) (s : State) → Shaped c s → Bits c s → (n : ℕ) → valueAt s n ≤ 1
-bits-all c s sh b n =
-    ⊎-elim
-    (λ (h : n < 2). rw (rail-value s n h) (omega arith))
-    (⊎-elim
-    (λ (h : Numbered c n). b .bit n h)
-    (λ (h : 2 + length (c .nodes) ≤ n). rw (past-value c s sh n h) (omega arith)))
-    (node-cases c n)

@@ -10,11 +10,11 @@ use lib.Dec.{ltb}
 use lib.Pow.{pow-pos}
 use borrow.Author.Tests.{lt-ltb, le-ltb}
 use Rattle.lists.proofs.Cases.{lt-or-ge}
+use Rattle.lists.proofs.Map.{map-at}
 use Rattle.refusal.specs.Answer.{answered}
 use Rattle.format.specs.declared.Entry.{Entry}
 use Rattle.format.specs.Circuit.{Circuit, noEntry}
 use Rattle.format.specs.Legal.{checkCircuit}
-use Rattle.format.proofs.Every.{map-at}
 use Rattle.format.proofs.Legal.{legal-entry}
 use Rattle.diagram.specs.Pattern.{patterns}
 use Rattle.diagram.specs.Table.{never}

@@ -4,7 +4,7 @@ use mathlib.Core.Path.{_≡_, refl, sym, _∙_, ap, subst}
 use mathlib.Core.Logic.{_⊎_, inl, inr, ⊎-elim}
 use mathlib.Core.Bool.{Bool, true, false, not, _||_, cond}
 use mathlib.Core.Option.{Option, some, none}
-use mathlib.Core.List.{List, [], _∷_, _++_, List·Memᴰ, List·Memᴰ·head, List·Memᴰ·tail, List·Memᴰ·not-nil, List·Memᴰ·cases-cons}
+use mathlib.Core.List.{List, [], _∷_, List·Memᴰ, List·Memᴰ·head, List·Memᴰ·tail, List·Memᴰ·not-nil, List·Memᴰ·cases-cons}
 use Prim.Native.Nat.{ℕ, zero, suc, _+_, _≤_, _<_}
 use native.Mathlib.Omega.{arith}
 use lib.ListN.{length}
@@ -71,22 +71,6 @@ arms-all {A} P away f ks h o p = arms-related (λ (v : A) (_ : Unit {0}). P v) a
 pub arms-same : {A : Type 0} (away : Channel → Bool) (f g : A → Channel → A) (ks : List Channel)
     → ((k : Channel) → List·Memᴰ k ks → away k ≡ true → (v : A) → f v k ≡ g v k) → (o : A) → overArms away f o ks ≡ overArms away g o ks
 arms-same {A} away f g ks h o = arms-related (_≡_ {A = A}) away f g ks (λ k m e v w q. h k m e v ∙ ap (λ (u : A). g u k) q) o o refl
-
--- arms one after the other
-pub arms-append : {A : Type 0} (away : Channel → Bool) (f : A → Channel → A) (o : A) (ks js : List Channel) → overArms away f o (ks ++ js) ≡ overArms away f (overArms away f o ks) js
-unfolding overArms
-arms-append away f o [] js = refl
-arms-append away f o (k ∷ ks) js = arms-append away f (cond (away k) (f o k) o) ks js
-
--- an arm that leads away is added
-pub arms-take : {A : Type 0} (away : Channel → Bool) (f : A → Channel → A) (o : A) (k : Channel) (ks : List Channel) → away k ≡ true → overArms away f o (k ∷ ks) ≡ overArms away f (f o k) ks
-unfolding overArms
-arms-take away f o k ks e = rw e
-
--- one that does not is left out
-pub arms-leave : {A : Type 0} (away : Channel → Bool) (f : A → Channel → A) (o : A) (k : Channel) (ks : List Channel) → away k ≡ false → overArms away f o (k ∷ ks) ≡ overArms away f o ks
-unfolding overArms
-arms-leave away f o k ks e = rw e
 
 -- a test between related things
 pub cond-related : {A B : Type 0} (R : A → B → Type 0) (t : Bool) (a x : A) (b y : B) → (t ≡ true → R a b) → (t ≡ false → R x y) → R (cond t a x) (cond t b y)

@@ -11,8 +11,9 @@ use Rattle.refusal.specs.declared.Refusal.{Refusal}
 use Rattle.refusal.specs.declared.Refusal.the-variants.{Length, Header, Record, Order, Buffer}
 use Rattle.refusal.specs.declared.Reply.{Reply}
 use Rattle.refusal.specs.declared.Reply.the-variants.{Done, Refused}
-use Rattle.refusal.specs.Number.{refusalNumber, replyNumber}
+use Rattle.refusal.specs.Number.{refusalNumber}
 use Rattle.refusal.specs.Answer.{Answer, refused, answered, check, answerNumber, replyOf}
+use Rattle.refusal.proofs.Answer.{reply-number}
 use Rattle.format.specs.declared.Header as header
 use Rattle.format.specs.Circuit.{Circuit, headerOf, every}
 use Rattle.format.specs.Legal.{limitsKept, fieldsLegal, rising, checkCircuit}
@@ -23,8 +24,6 @@ use Rattle.cell.specs.declared.Cell.{Cell}
 use Rattle.cell.specs.declared.Reading.{Reading}
 use Rattle.cell.specs.Value.{circuitOf, reading}
 use Rattle.cell.proofs.Read.{circuit-of-cell}
-use Rattle.net.specs.Net.{netCircuit}
-use Rattle.net.specs.Laid.{Laid}
 use Rattle.run.specs.Replied.{cellBy, Replied}
 
 -- an answer is not the refusal 8
@@ -77,10 +76,6 @@ circuit-other c =
 refused-done : {A : Type 0} {why : Refusal} → Refused why ≡ Done → A
 refused-done e = let z : _≡_ {A = ℕ} 0 1 = cc in absurd (omega arith)
 
-reply-number : {A : Type 0} (a : Answer A) → replyNumber (replyOf a) ≡ answerNumber a
-reply-number (refused why) = refl
-reply-number (answered x) = refl
-
 -- a reading
 reading-by : (a : Answer Circuit) → cellBy (reading a .reply) (reading a .cell) ≡ a
 unfolding reading
@@ -116,7 +111,3 @@ checked-replied cell reply e =
       legal = check-done (circuitOf cell) (checkCircuit (circuitOf cell)) (λ d f. check-same f);
       other = rw (reply-number (checkCircuit (circuitOf cell))) (circuit-other (circuitOf cell) .is);
     })
-
--- a column that lays out a cell lays out its own
-pub laid-own : {c : Circuit} {net : List ℕ} → Laid c net → Laid (netCircuit net) net
-laid-own l = rw (l .circuit) l

@@ -14,19 +14,18 @@ use Rattle.refusal.specs.Answer.{Answer, refused, answered}
 use Rattle.format.specs.Circuit.{Circuit}
 use Rattle.diagram.specs.Table.{Table}
 use Rattle.diagram.specs.Call.{Columns, lengthsLegal, columnsSound, tableOf}
-use Rattle.diagram.proofs.Sound.{sound-test}
-use Rattle.diagram.proofs.Columns.{Lengths, ColumnsSound, lengths-record, columns-record}
 use Rattle.rules.specs.State.{valueAt, changeAt}
 use Rattle.rules.specs.Run as defined
 use Rattle.rules.specs.Run.{stateOf, runSound}
 use Rattle.rules.specs.Call.{Wire, askCall}
 use Rattle.table.specs.Holds.{columns, Judged}
 use Rattle.functions.specs.Open.{Legible}
+use Rattle.functions.proofs.Carry.{sound-legible}
 use Rattle.net.specs.Net.{nodesPlace, lettersPlace, at, netCircuit}
 use Rattle.net.specs.Laid.{Laid}
+use Rattle.net.proofs.Laying.{nodes-length, letters-at}
 use Rattle.record.specs.declared.Run.{Run}
 use Rattle.record.specs.Record.{runOf}
-use Rattle.record.proofs.Net.{nodes-count}
 use Rattle.run.specs.Asked.{AskedAs}
 
 -- a refused question says nothing
@@ -57,13 +56,9 @@ module _ (net l w h : List ℕ) (r : Run) (n p : ℕ) (laid : Laid (netCircuit n
   abbrev call : Answer Wire
   call = askCall (answered c) (columns l w h) (runOf c r) n p
 
-  letters-at : at net lettersPlace ≡ c .letters
-  unfolding netCircuit
-  letters-at = refl
-
   module _ {ix : List ℕ} {x : Bool} (j : Judged (at net lettersPlace) l w h (r .used) ix x) where
     columns-by : columnsSound (c .letters) (columns l w h) (r .used) ≡ x
-    columns-by = rw letters-at at (sym (j .is))
+    columns-by = rw (← letters-at net) at (sym (j .is))
 
     -- 7: the table
     pub asked-table : {reply : Reply} {value change : ℕ} → x ≡ false → (reply ≡ Refused Unsound) × (value ≡ 0) × (change ≡ 0)
@@ -73,10 +68,7 @@ module _ (net l w h : List ℕ) (r : Run) (n p : ℕ) (laid : Laid (netCircuit n
 
     -- a sound table can be read
     pub table-legible : x ≡ true → Legible (at net lettersPlace) l w h (r .used)
-    table-legible e =
-        let long : Lengths (columns l w h) = lengths-record (columns l w h) legal in
-        let s : ColumnsSound (at net lettersPlace) (columns l w h) (r .used) = columns-record (at net lettersPlace) (columns l w h) (r .used) (sym (j .is) ∙ e) in
-        record { few = laid .within .letters; low-long = long .low-long; high-long = long .high-long; fits = s .fits; sound = sound-test (at net lettersPlace) t (s .table) }
+    table-legible e = sound-legible legal (sym (j .is) ∙ e) (laid .within .letters)
 
     module _ (e : x ≡ true) where
       -- 7: the run
@@ -92,7 +84,7 @@ module _ (net l w h : List ℕ) (r : Run) (n p : ℕ) (laid : Laid (netCircuit n
             → AskedAs (askCall (answered (netCircuit net)) (columns l w h) (runOf (netCircuit net) r) n p) reply value change
         unfolding askCall
         asked-node {reply} {value} {change} g a =
-            asked-refused call Question reply value change (rw (legal, columns-by, e, ← is, f, le-ltb n (2 + length (c .nodes)) (omega (arith, nodes-count net)))) a
+            asked-refused call Question reply value change (rw (legal, columns-by, e, ← is, f, le-ltb n (2 + length (c .nodes)) (omega (arith, nodes-length net)))) a
 
         -- 9: the pattern
         pub asked-pattern : {reply : Reply} {value change : ℕ} → n < at net nodesPlace + 2 → 2 ^ at net lettersPlace ≤ p → (reply ≡ Refused Question) × (value ≡ 0) × (change ≡ 0)
@@ -100,7 +92,7 @@ module _ (net l w h : List ℕ) (r : Run) (n p : ℕ) (laid : Laid (netCircuit n
         unfolding askCall
         asked-pattern {reply} {value} {change} g k a =
             asked-refused call Question reply value change
-            (rw (legal, columns-by, e, ← is, f, lt-ltb n (2 + length (c .nodes)) (omega (arith, nodes-count net)), le-ltb p (2 ^ c .letters) (rw letters-at at k))) a
+            (rw (legal, columns-by, e, ← is, f, lt-ltb n (2 + length (c .nodes)) (omega (arith, nodes-length net)), le-ltb p (2 ^ c .letters) (rw (← letters-at net) at k))) a
 
         -- the answer
         pub asked-done : {value change : ℕ} → n < at net nodesPlace + 2 → p < 2 ^ at net lettersPlace
@@ -109,5 +101,5 @@ module _ (net l w h : List ℕ) (r : Run) (n p : ℕ) (laid : Laid (netCircuit n
             → AskedAs (askCall (answered (netCircuit net)) (columns l w h) (runOf (netCircuit net) r) n p) Done value change
         unfolding askCall
         asked-done {value} {change} g k a =
-            rw (legal, columns-by, e, ← is, f, lt-ltb n (2 + length (c .nodes)) (omega (arith, nodes-count net)), lt-ltb p (2 ^ c .letters) (rw letters-at at k))
+            rw (legal, columns-by, e, ← is, f, lt-ltb n (2 + length (c .nodes)) (omega (arith, nodes-length net)), lt-ltb p (2 ^ c .letters) (rw (← letters-at net) at k))
             record { reply-is = refl; value-is = a .0; change-is = a .1 }

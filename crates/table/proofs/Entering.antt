@@ -10,7 +10,7 @@ use lib.Seq.{getD-set-same, getD-set-other, length-take-le}
 use Rattle.diagram.specs.Table.{branch, entryAt}
 use Rattle.diagram.specs.Call.{lengthsLegal, rows}
 use Rattle.diagram.proofs.Sound.{entry-path}
-use Rattle.diagram.proofs.Columns.{Lengths, lengths-record, rows-at}
+use Rattle.diagram.proofs.Columns.{Lengths, lengths-record, lengths-test, rows-at}
 use Rattle.table.specs.Index.{bucket, Indexed, linked}
 use Rattle.table.specs.Holds.{columns, Sized, Ready, Sought, Empty, IndexLength}
 use Rattle.table.specs.Steps.{Entered}
@@ -21,6 +21,21 @@ pub sized : {l w h ix : List ℕ} → lengthsLegal (columns l w h) ≡ true → 
 sized {l} {w} {h} {ix} e n =
     let long : Lengths (columns l w h) = lengths-record (columns l w h) e in
     record { least = long .least; most = long .most; low-long = long .low-long; high-long = long .high-long; even = n .even; room = n .room }
+
+-- they are of legal lengths
+pub sized-legal : {l w h ix : List ℕ} → Sized l w h ix → lengthsLegal (columns l w h) ≡ true
+sized-legal {l} {w} {h} s = lengths-test (columns l w h) (record { least = s .least; most = s .most; low-long = s .low-long; high-long = s .high-long })
+
+-- others of the same lengths
+pub sized-again : {l w h ix l1 w1 h1 ix1 : List ℕ} → Sized l w h ix → length l1 ≡ length l → length w1 ≡ length w → length h1 ≡ length h → length ix1 ≡ length ix → Sized l1 w1 h1 ix1
+sized-again s a b c d = record {
+  least = omega (arith, s .least);
+  most = omega (arith, s .most);
+  low-long = omega (arith, s .low-long);
+  high-long = omega (arith, s .high-long);
+  even = rw d (s .even);
+  room = rw (a, d) (s .room);
+}
 
 -- the first part of a local array of zeros, lent as the index
 abbrev pub zeros : ℕ → List ℕ

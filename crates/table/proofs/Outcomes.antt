@@ -5,9 +5,9 @@ use mathlib.Core.List.{List, [], _∷_, _++_}
 use mathlib.Core.Bool.{Bool, true, false, true≢false}
 use Prim.Native.Nat.{ℕ, _+_, _/_, _<_, _≤_}
 use native.Mathlib.Omega.{arith}
-use lib.ListN.{length, getD, set, take, length-append, length-set}
+use lib.ListN.{length, set, take, length-append, length-set}
 use lib.Seq.{getD-take, take-take}
-use borrow.Author.Tests.{lt-ltb, le-ltb, ltb-true, ltb-false}
+use borrow.Author.Tests.{lt-ltb, le-ltb, ltb-true}
 use Rattle.lists.proofs.Cases.{lt-or-ge, true-false}
 use Rattle.diagram.specs.Table.{Entry, Table, blank, branch, entryAt}
 use Rattle.diagram.specs.Sound.{distinct}
@@ -15,7 +15,7 @@ use Rattle.diagram.specs.Store.{Stored, stored, find, add}
 use Rattle.diagram.specs.Call.{Columns, rows, tableOf}
 use Rattle.diagram.proofs.Sound.{distinct-apart, apart-distinct}
 use Rattle.diagram.proofs.Add.{Extends, extends-refl, extends-append, extends-take, find-is, find-missing, find-cases, add-found, add-missing, Added, added}
-use Rattle.diagram.proofs.Columns.{table-length, table-columns, columns-path, columns-letter-at, columns-low-at, columns-high-at, columns-letter-set, columns-low-set, columns-high-set}
+use Rattle.diagram.proofs.Columns.{table-length, table-columns, columns-path, columns-letter-set, columns-low-set, columns-high-set}
 use Rattle.table.specs.declared.Put.{Put}
 use Rattle.table.specs.Index.{bucket, linked}
 use Rattle.table.specs.Holds.{columns, Holds, Kept, Outcome, Sought}
@@ -64,16 +64,6 @@ module _ {l w h ix : List ℕ} {t : Table} {used : ℕ} (s : Holds l w h ix t us
   pub holds-again : Holds l w h ix (tableOf (columns l w h) used) used
   holds-again = rw holds-table s
 
-  -- the numbers of an entry
-  pub holds-letter : (i : ℕ) → getD l i 0 ≡ entryAt t i .letter
-  holds-letter i = ap (λ (c : Columns). getD (c .letter) i 0) (s .is) ∙ columns-letter-at (length l) t i
-
-  pub holds-low : (i : ℕ) → getD w i 0 ≡ entryAt t i .low
-  holds-low i = ap (λ (c : Columns). getD (c .low) i 0) (s .is) ∙ columns-low-at (length l) t i
-
-  pub holds-high : (i : ℕ) → getD h i 0 ≡ entryAt t i .high
-  holds-high i = ap (λ (c : Columns). getD (c .high) i 0) (s .is) ∙ columns-high-at (length l) t i
-
   -- an entry that is there needs no storing
   pub outcome-there : (e : ℕ) → Outcome t (stored t e) l w h ix (put false e used)
   outcome-there e = record {
@@ -97,10 +87,6 @@ kept-extends {l} {w} {h} {size} {t} {u} e k = record {
 }
 
 module _ {t : Table} {s : Stored} {l w h ix : List ℕ} {r : Put} (o : Outcome t s l w h ix r) where
-  -- what was stored fits, or it does not
-  pub outcome-fits : r .full ≡ false → length (s .table) ≤ length l
-  outcome-fits e = ltb-false (length l) (length (s .table)) (sym (o .full) ∙ e)
-
   pub outcome-over : r .full ≡ true → length l < length (s .table)
   outcome-over e = ltb-true (length l) (length (s .table)) (sym (o .full) ∙ e)
 

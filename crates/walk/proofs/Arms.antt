@@ -1,5 +1,5 @@
 -- The arms that the cell lists for a node: where they stand, that they are transistors, and that they add what the kept channels add.
-use mathlib.Core.Path.{_≡_, sym, _∙_, ap}
+use mathlib.Core.Path.{_≡_, refl, sym, _∙_, ap}
 use mathlib.Core.Logic.{⊎-elim}
 use mathlib.Core.Bool.{Bool, true, false, _||_, cond}
 use mathlib.Core.Option.{Option}
@@ -15,9 +15,9 @@ use Rattle.rules.specs.Kept.{Channel}
 use Rattle.rules.specs.Sum.{leads, overArms}
 use Rattle.rules.proofs.Range.{Resistive}
 use Rattle.net.specs.Net.{nodesPlace, transistorsPlace, degreePlace, armsPlace, at, netTransistor, netCircuit, armsFrom, armsOf, netArms}
+use Rattle.net.proofs.Laying.{transistors-length, transistor-at}
 use Rattle.walk.specs.Leaf.{keptBy, isKept, leafChannels, netChannel}
 use Rattle.walk.specs.Ready.{Net}
-use Rattle.walk.proofs.Cell.{net-transistors, net-transistor}
 use Rattle.walk.proofs.Fold.{foldArms, goesOn, over-fold}
 
 -- what holds of each transistor holds of the kept ones
@@ -32,6 +32,12 @@ kept-all P flag i (t ∷ ts) h k m = by (flag i) m (kept-all P flag (suc i) ts (
     by : (b : Bool) → List·Memᴰ k (cond b (record { number = i; transistor = t } ∷ keptBy flag (suc i) ts) (keptBy flag (suc i) ts)) → (List·Memᴰ k (keptBy flag (suc i) ts) → P (k .transistor)) → P (k .transistor)
     by true at below = ⊎-elim here below (List·Memᴰ·cases-cons at)
     by false at below = below at
+
+-- flags that agree keep the same transistors
+pub by-ext : (f g : ℕ → Bool) (i : ℕ) (ts : List Transistor) → ((j : ℕ) → i ≤ j → j < i + length ts → f j ≡ g j) → keptBy f i ts ≡ keptBy g i ts
+unfolding keptBy
+by-ext f g i [] h = refl
+by-ext f g i (t ∷ ts) h = rw (h i (omega arith) (omega arith), by-ext f g (suc i) ts (λ j l m. h j (omega arith) (omega arith)))
 
 -- an arm's number is that of a transistor
 from-within : (n i : ℕ) (ts : List Transistor) (k : ℕ) → k < length (armsFrom n i ts) → getD (armsFrom n i ts) k 0 < i + length ts
@@ -52,8 +58,8 @@ module _ (net : List ℕ) (h : Net net) where
   leaf-resistive leaf =
       kept-all (λ (t : Transistor). 1 ≤ t .resistance .0) (isKept leaf) 0 (netCircuit net .transistors)
       (λ j l.
-      let g : j < at net transistorsPlace = omega (arith, net-transistors net) in
-      rw (net-transistor net j g) (h .within .transistor j g .least))
+      let g : j < at net transistorsPlace = omega (arith, transistors-length net) in
+      rw (transistor-at net j g) (h .within .transistor j g .least))
 
   module _ (n : ℕ) (l : n < 2 + at net nodesPlace) where
     -- as many arms as it says
@@ -72,7 +78,7 @@ module _ (net : List ℕ) (h : Net net) where
     pub arms-within : (k : ℕ) → k < length (netArms net n) → getD (netArms net n) k 0 < at net transistorsPlace
     arms-within k g =
         let listed : k < length (armsOf (netCircuit net) n) = rw (h .arms n l) at g in
-        rw (h .arms n l) (omega (arith, from-within n 0 (netCircuit net .transistors) k listed, net-transistors net))
+        rw (h .arms n l) (omega (arith, from-within n 0 (netCircuit net .transistors) k listed, transistors-length net))
 
     -- over the kept channels that lead away, and over the listed numbers
     pub arms-fold : {A : Type 0} (leaf : List ℕ) (from : Option ℕ) (add : A → Channel → A) (v : A)
@@ -81,6 +87,6 @@ module _ (net : List ℕ) (h : Net net) where
         over-fold (isKept leaf) from n add (λ (w : A) (i : ℕ). add w (netChannel net i)) 0 (netCircuit net .transistors)
         (λ j g w.
         let same : j ≡ 0 + j = omega arith in
-        ap (λ (t : Transistor). add w (record { number = 0 + j; transistor = t })) (net-transistor net j (omega (arith, net-transistors net)) ∙ ap (netTransistor net) same))
+        ap (λ (t : Transistor). add w (record { number = 0 + j; transistor = t })) (transistor-at net j (omega (arith, transistors-length net)) ∙ ap (netTransistor net) same))
         v
         ∙ ap (λ (is : List ℕ). foldArms (goesOn (isKept leaf) from) (λ (w : A) (i : ℕ). add w (netChannel net i)) v is) (sym (h .arms n l))

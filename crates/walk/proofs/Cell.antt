@@ -1,51 +1,31 @@
 -- What stands where in the cell laid out flat, and in a leaf.
-use mathlib.Core.Path.{_≡_, refl, sym, _∙_, ap}
+use mathlib.Core.Path.{_≡_, sym, _∙_, ap}
 use mathlib.Core.Logic.{⊎-elim}
 use mathlib.Core.Bool.{true, false}
 use mathlib.Core.Option.{some}
 use mathlib.Core.List.{List}
 use Prim.Native.Nat.{ℕ, zero, suc, _+_, _-_, _≤_, _<_}
 use native.Mathlib.Omega.{arith}
-use lib.ListN.{length, getD, drop, replicate, length-map}
+use lib.ListN.{length, getD, drop, getD-replicate}
 use lib.Seq.{getD-take, getD-drop}
 use lib.Dec.{eqb}
 use borrow.Author.Tests.{lt-ltb, le-ltb, le-leb, ne-eqb}
 use Rattle.lists.proofs.Cases.{lt-or-ge, true-false}
 use Rattle.units.specs.Units.{femtofarads}
-use Rattle.format.proofs.Every.{map-at}
 use Rattle.format.specs.declared.Node.{Node}
-use Rattle.format.specs.Circuit.{Circuit, noTransistor, nodeRecord}
-use Rattle.rules.specs.State.{valueAt, changeAt, upFrom, isDriven}
+use Rattle.format.specs.Circuit.{Circuit, nodeRecord}
+use Rattle.rules.specs.State.{valueAt, changeAt, isDriven}
 use Rattle.rules.specs.Sum.{isThe}
-use Rattle.rules.proofs.State.{up-length, up-at}
-use Rattle.net.specs.Net.{nodesPlace, transistorsPlace, rolePlace, capacitancePlace, netNode, netTransistor, netCircuit, at}
+use Rattle.net.specs.Net.{nodesPlace, rolePlace, capacitancePlace, netNode, netCircuit, at}
+use Rattle.net.proofs.Laying.{node-at}
+pub use Rattle.net.proofs.Laying.{nodes-length as net-nodes, transistors-length as net-transistors, transistor-at as net-transistor}
 use Rattle.walk.specs.Leaf.{leafState, fromOf}
 use Rattle.walk.specs.Ready.{Leaf}
 
 module _ (net : List ℕ) where
-  -- as many node records as it says
-  pub net-nodes : length (netCircuit net .nodes) ≡ at net nodesPlace
-  unfolding netCircuit
-  net-nodes = length-map (upFrom (at net nodesPlace) 0) (netNode net) ∙ up-length (at net nodesPlace) 0
-
-  -- and transistors
-  pub net-transistors : length (netCircuit net .transistors) ≡ at net transistorsPlace
-  unfolding netCircuit
-  net-transistors = length-map (upFrom (at net transistorsPlace) 0) (netTransistor net) ∙ up-length (at net transistorsPlace) 0
-
   -- the record of a node's number
   pub net-node : (n : ℕ) → 2 ≤ n → n < 2 + at net nodesPlace → nodeRecord (netCircuit net) n ≡ netNode net (n - 2)
-  unfolding netCircuit
-  net-node n l h =
-      map-at (netNode net) (upFrom (at net nodesPlace) 0) 0 _ (n - 2) (omega (arith, up-length (at net nodesPlace) 0))
-      ∙ ap (netNode net) (up-at (at net nodesPlace) 0 (n - 2) 0 (omega arith) ∙ omega arith)
-
-  -- the transistor of a number
-  pub net-transistor : (i : ℕ) → i < at net transistorsPlace → getD (netCircuit net .transistors) i noTransistor ≡ netTransistor net i
-  unfolding netCircuit
-  net-transistor i h =
-      map-at (netTransistor net) (upFrom (at net transistorsPlace) 0) 0 noTransistor i (omega (arith, up-length (at net transistorsPlace) 0))
-      ∙ ap (netTransistor net) (up-at (at net transistorsPlace) 0 i 0 h ∙ omega arith)
+  net-node n l h = node-at net (n - 2) (omega arith)
 
   -- a rail is a driven end
   pub rail-driven : (n : ℕ) → n < 2 → isDriven (netCircuit net) n ≡ true
@@ -64,16 +44,16 @@ module _ (net : List ℕ) where
   net-capacitance n l h = ap (λ (r : Node). r .capacitance) (net-node n l h)
 
 module _ (c : Circuit) (leaf : List ℕ) (pending : ℕ) where
-  -- a node's value stands at its number
-  pub leaf-value : Leaf c leaf → (n : ℕ) → n < 2 + length (c .nodes) → valueAt (leafState c pending leaf) n ≡ getD leaf n 0
-  leaf-value h n l =
-      ⊎-elim
-      (λ (g : n < 2). rail n g)
-      (λ (g : 2 ≤ n).
+  -- the value of a node record stands at its number
+  pub record-value : (n : ℕ) → 2 ≤ n → n < 2 + length (c .nodes) → valueAt (leafState c pending leaf) n ≡ getD leaf n 0
+  record-value n g l =
       let place : 2 + (n - 2) ≡ n = omega arith in
       rw (le-ltb n 2 g)
-      (getD-take (length (c .nodes)) (drop 2 leaf) (n - 2) 0 (omega arith) ∙ getD-drop 2 leaf (n - 2) 0 ∙ ap (λ (i : ℕ). getD leaf i 0) place))
-      (lt-or-ge n 2)
+      (getD-take (length (c .nodes)) (drop 2 leaf) (n - 2) 0 (omega arith) ∙ getD-drop 2 leaf (n - 2) 0 ∙ ap (λ (i : ℕ). getD leaf i 0) place)
+
+  -- so does a rail's
+  pub leaf-value : Leaf c leaf → (n : ℕ) → n < 2 + length (c .nodes) → valueAt (leafState c pending leaf) n ≡ getD leaf n 0
+  leaf-value h n l = ⊎-elim (λ (g : n < 2). rail n g) (λ (g : 2 ≤ n). record-value n g l) (lt-or-ge n 2)
     where
       rail : (m : ℕ) → m < 2 → valueAt (leafState c pending leaf) m ≡ getD leaf m 0
       rail zero g = sym (h .ground)
@@ -82,12 +62,7 @@ module _ (c : Circuit) (leaf : List ℕ) (pending : ℕ) where
 
   -- the next change of a node record is the pending one
   pub leaf-change : (n : ℕ) → 2 ≤ n → n < 2 + length (c .nodes) → changeAt (leafState c pending leaf) n ≡ pending
-  leaf-change n g l = rw (le-ltb n 2 g) (replicate-at (length (c .nodes)) (n - 2) 4294967295 (omega arith))
-    where
-      replicate-at : (m i d : ℕ) → i < m → getD (replicate m pending) i d ≡ pending
-      replicate-at zero i d q = absurd (omega arith)
-      replicate-at (suc m) zero d q = refl
-      replicate-at (suc m) (suc i) d q = replicate-at m i d (omega arith)
+  leaf-change n g l = rw (le-ltb n 2 g) (getD-replicate (length (c .nodes)) (n - 2) pending _ (omega arith))
 
 -- a transistor's number is that by which a node was reached, where that is one
 pub from-is : (from i : ℕ) → i < 64 → isThe (fromOf from) i ≡ eqb i from

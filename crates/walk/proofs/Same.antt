@@ -6,11 +6,11 @@ use Prim.Native.Nat.{ℕ}
 use lib.ListN.{length}
 use Rattle.units.specs.Rules as units
 use Rattle.format.specs.Circuit.{Circuit}
-use Rattle.rules.specs.State.{State, valueAt, changeAt}
+use Rattle.rules.specs.State.{State, valueAt}
 use Rattle.rules.specs.Kept.{Channel}
 use Rattle.rules.specs.Sum.{nodeSum}
 use Rattle.rules.specs.Delay.{Load, nodeLoad}
-use Rattle.rules.specs.Step.{target, delayTo, nextChange}
+use Rattle.rules.specs.Step.{target, delayTo}
 use Rattle.rules.proofs.Walk.{sum-walk, load-walk}
 
 module _ (c : Circuit) (s t : State) (ks : List Channel) (e : s .values ≡ t .values) where
@@ -40,8 +40,3 @@ module _ (c : Circuit) (s t : State) (ks : List Channel) (e : s .values ≡ t .v
   pub same-delay : (new n : ℕ) → delayTo c s ks new n ≡ delayTo c t ks new n
   unfolding delayTo
   same-delay new n = ap (λ (load : Load). units.delay (load .resistance) (load .charge) .0) (same-load (length (c .nodes)) new none n)
-
-  -- so with the same next change of a node before, it is the same after
-  pub same-next : (time n : ℕ) → changeAt s n ≡ changeAt t n → nextChange c time s ks n ≡ nextChange c time t ks n
-  unfolding nextChange
-  same-next time n p = rw (same-target n, same-value n, same-delay (target c t ks n) n, p)

@@ -18,9 +18,10 @@ use Rattle.rules.specs.Delay.{Load, ownLoad, loadArm, joinLoads}
 use Rattle.rules.proofs.Walk.{sum-arms, load-arms}
 use Rattle.rules.proofs.Range.{total, sum-of-arm}
 use Rattle.net.specs.Net.{nodesPlace, transistorsPlace, at, netTransistor, netCircuit, netArms}
+use Rattle.net.proofs.Laying.{nodes-length}
 use Rattle.walk.specs.Leaf.{isKept, leafChannels, leafState, fromOf, netChannel, leafSum, leafLoad}
 use Rattle.walk.specs.Ready.{Ready, Divided, Joinable, JoinableLoads}
-use Rattle.walk.proofs.Cell.{net-nodes, leaf-value}
+use Rattle.walk.proofs.Cell.{leaf-value}
 use Rattle.walk.proofs.Fold.{foldArms, goesOn}
 use Rattle.walk.proofs.Arms.{leaf-resistive, arms-fold}
 use Rattle.walk.proofs.Charge.{sum-small, load-small}
@@ -59,7 +60,7 @@ joined-led a b j = parallel-positive (a .resistance) (b .resistance) (j .a-posit
 
 module _ (net leaf : List ℕ) (h : Ready net leaf) where
   node-in : (n : ℕ) → n < 2 + at net nodesPlace → n < 2 + length (netCircuit net .nodes)
-  node-in n l = omega (arith, net-nodes net)
+  node-in n l = omega (arith, nodes-length net)
 
   -- the far end of a transistor is a node
   pub far-in : (n i : ℕ) → i < at net transistorsPlace → farEnd n (netChannel net i) < 2 + at net nodesPlace

@@ -61,10 +61,6 @@ module _ {letters : ℕ} {l w h ix : List ℕ} {used : ℕ} (o : Open letters l 
   pub open-three : 3 ≤ used
   open-three = omega (arith, open-sound .three, open-long)
 
-  -- every entry is an operand
-  pub open-operand : {e : ℕ} → e < used → Operand letters (tableOf (columns l w h) used) used letters e
-  open-operand {e} lt = record { within = lt; from = omega arith }
-
   -- an exact outcome is growth
   pub outcome-grown : {f : ℕ → ℕ} {l2 w2 h2 ix2 : List ℕ} {r : Put} → Outcome (tableOf (columns l w h) used) (store letters 0 f (tableOf (columns l w h) used)) l2 w2 h2 ix2 r
       → Grown letters (tableOf (columns l w h) used) f l2 w2 h2 ix2 r

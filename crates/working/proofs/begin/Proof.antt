@@ -1,7 +1,8 @@
 -- `begin` meets its contract: the fresh table passes the check, which builds its index. Assumes nothing.
 use native.Mathlib.Omega.{arith}
 use borrow.Author.Needs.{needs}
-use Rattle.working.proofs.Fresh.{sized-again, begin-open}
+use Rattle.table.proofs.Entering.{sized-again}
+use Rattle.working.proofs.Fresh.{begin-open}
 use Rattle.working.proofs.begin.Statement.{statement}
 use Rattle.working.proofs.begin.Tie as tie
 

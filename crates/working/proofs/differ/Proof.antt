@@ -1,6 +1,7 @@
 -- `differ` meets its contract: the opposite first, then the choice. Assumes nothing.
 use native.Mathlib.Omega.{arith}
-use Rattle.working.proofs.Grow.{grown-full, grown-within, grown-entry, open-operand, differ-grown}
+use Rattle.functions.proofs.Carry.{whole-operand}
+use Rattle.working.proofs.Grow.{grown-full, grown-within, grown-entry, differ-grown}
 use Rattle.working.proofs.differ.Statement.{statement}
 use Rattle.working.proofs.differ.Tie as tie
 
@@ -26,9 +27,9 @@ choose-requires : tie.Need-choose-requires
 choose-requires c κs = (
   c .before .before .before .before .before .before .before .before .before .before .before .before .before .opposite .ensures .opened (c .before .before .before .before .if1 .left),
   (
-    open-operand (c .before .before .before .before .before .before .before .before .before .before .before .before .before .opposite .ensures .opened (c .before .before .before .before .if1 .left)) (grown-within (c .before .before .before .before .before .before .before .before .before .before .before .before .before .before .before .before .before .before .before .before .before .before .pre .0) (c .before .before .before .before .before .before .before .before .before .before .before .before .before .opposite .ensures) (c .before .before .before .before .if1 .left) (c .before .before .before .before .before .before .before .before .before .before .before .before .before .before .before .before .before .before .before .before .before .before .pre .1)),
-    open-operand (c .before .before .before .before .before .before .before .before .before .before .before .before .before .opposite .ensures .opened (c .before .before .before .before .if1 .left)) (grown-entry (c .before .before .before .before .before .before .before .before .before .before .before .before .before .before .before .before .before .before .before .before .before .before .pre .0) (c .before .before .before .before .before .before .before .before .before .before .before .before .before .opposite .ensures) (c .before .before .before .before .if1 .left)),
-    open-operand (c .before .before .before .before .before .before .before .before .before .before .before .before .before .opposite .ensures .opened (c .before .before .before .before .if1 .left)) (grown-within (c .before .before .before .before .before .before .before .before .before .before .before .before .before .before .before .before .before .before .before .before .before .before .pre .0) (c .before .before .before .before .before .before .before .before .before .before .before .before .before .opposite .ensures) (c .before .before .before .before .if1 .left) (c .before .before .before .before .before .before .before .before .before .before .before .before .before .before .before .before .before .before .before .before .before .before .pre .2)),
+    whole-operand (grown-within (c .before .before .before .before .before .before .before .before .before .before .before .before .before .before .before .before .before .before .before .before .before .before .pre .0) (c .before .before .before .before .before .before .before .before .before .before .before .before .before .opposite .ensures) (c .before .before .before .before .if1 .left) (c .before .before .before .before .before .before .before .before .before .before .before .before .before .before .before .before .before .before .before .before .before .before .pre .1)),
+    whole-operand (grown-entry (c .before .before .before .before .before .before .before .before .before .before .before .before .before .before .before .before .before .before .before .before .before .before .pre .0) (c .before .before .before .before .before .before .before .before .before .before .before .before .before .opposite .ensures) (c .before .before .before .before .if1 .left)),
+    whole-operand (grown-within (c .before .before .before .before .before .before .before .before .before .before .before .before .before .before .before .before .before .before .before .before .before .before .pre .0) (c .before .before .before .before .before .before .before .before .before .before .before .before .before .opposite .ensures) (c .before .before .before .before .if1 .left) (c .before .before .before .before .before .before .before .before .before .before .before .before .before .before .before .before .before .before .before .before .before .before .pre .2)),
   ),
 )
 

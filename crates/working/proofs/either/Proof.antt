@@ -1,12 +1,13 @@
 -- `either` meets its contract. A choice with entry 1. Assumes nothing.
 use native.Mathlib.Omega.{arith}
 use borrow.Author.Needs.{needs}
-use Rattle.working.proofs.Grow.{open-three, open-operand, either-grown}
+use Rattle.functions.proofs.Carry.{whole-operand}
+use Rattle.working.proofs.Grow.{open-three, either-grown}
 use Rattle.working.proofs.either.Statement.{statement}
 use Rattle.working.proofs.either.Tie as tie
 
 choose-requires : tie.Need-choose-requires
-choose-requires c κs = (c .before .before .before .before .before .before .before .before .pre .0, (open-operand (c .before .before .before .before .before .before .before .before .pre .0) (c .before .before .before .before .before .before .before .before .pre .1), open-operand (c .before .before .before .before .before .before .before .before .pre .0) (omega (arith, open-three (c .before .before .before .before .before .before .before .before .pre .0))), open-operand (c .before .before .before .before .before .before .before .before .pre .0) (c .before .before .before .before .before .before .before .before .pre .2)))
+choose-requires c κs = (c .before .before .before .before .before .before .before .before .pre .0, (whole-operand (c .before .before .before .before .before .before .before .before .pre .1), whole-operand (omega (arith, open-three (c .before .before .before .before .before .before .before .before .pre .0))), whole-operand (c .before .before .before .before .before .before .before .before .pre .2)))
 
 same-length : tie.Need-same-length
 same-length c = search needs

@@ -6,7 +6,8 @@ use Rattle.diagram.specs.Operation.{applied}
 use Rattle.diagram.proofs.Calls.{apply-is, applyQuestion}
 use Rattle.diagram.proofs.Columns.{lengths-record}
 use Rattle.table.specs.Holds.{columns}
-use Rattle.calls.proofs.Answers.{stored-buffer, prefix-long, prefix-sized}
+use Rattle.table.proofs.Entering.{part-long, part-ready}
+use Rattle.calls.proofs.Answers.{stored-buffer}
 use Rattle.calls.proofs.apply.apply_call.Statement.{statement}
 use Rattle.calls.proofs.apply.apply_call.Tie as tie
 
@@ -35,10 +36,10 @@ array-borrow-prefix-index : tie.Need-array-borrow-prefix-index
 array-borrow-prefix-index c = c .before .before .before .index-len .ensures .most
 
 slice-aggregate-apply-open : tie.Need-slice-aggregate-apply-open
-slice-aggregate-apply-open c = prefix-long (c .before .before .before .before .index-len .result) 131072 (c .before .before .before .before .index-len .ensures .most)
+slice-aggregate-apply-open c = sym (part-long (c .before .before .before .before .index-len .result) 131072 (c .before .before .before .before .index-len .ensures .most))
 
 apply-open-requires : tie.Need-apply-open-requires
-apply-open-requires c κs = prefix-sized (c .before .before .before .before .index-len .result) 131072 (sym (c .before .before .before .before .before .before .lengths-legal .ensures) ∙ not-false (c .before .before .before .before .before .before .lengths-legal .result) (c .before .before .before .before .before .if1 .left)) (c .before .before .before .before .index-len .ensures) (c .before .before .before .before .index-len .ensures .most)
+apply-open-requires c κs = part-ready _ _ _ (c .before .before .before .before .index-len .result) 131072 (sym (c .before .before .before .before .before .before .lengths-legal .ensures) ∙ not-false (c .before .before .before .before .before .before .lengths-legal .result) (c .before .before .before .before .before .if1 .left)) (c .before .before .before .before .index-len .ensures) (c .before .before .before .before .index-len .ensures .most)
 
 same-length-4 : tie.Need-same-length-4
 same-length-4 c = omega (arith, c .before .before .before .before .before .before .before .apply-open .kept .0)

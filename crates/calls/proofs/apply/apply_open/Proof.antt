@@ -6,7 +6,8 @@ use Rattle.diagram.specs.Operation.{applied}
 use Rattle.diagram.specs.Call.{tableOf}
 use Rattle.diagram.proofs.Calls.{apply-is, applyQuestion, apply-asked}
 use Rattle.table.specs.Holds.{columns}
-use Rattle.calls.proofs.Answers.{judged-open, judged-passed, whole-operand, stored-unsound, stored-question, stored-closed, asked-few, asked-rest}
+use Rattle.functions.proofs.Carry.{judged-open, whole-operand}
+use Rattle.calls.proofs.Answers.{judged-passed, stored-unsound, stored-question, stored-closed, asked-few, asked-rest}
 use Rattle.calls.proofs.apply.apply_open.Statement.{statement}
 use Rattle.calls.proofs.apply.apply_open.Tie as tie
 
@@ -53,7 +54,7 @@ returns-2 : tie.Need-returns-2
 returns-2 c = rw apply-is (stored-question (c .before .before .before .before .before .before .before .before .before .before .before .before .before .before .before .args .k) (c .before .before .before .before .before .before .before .before .before .before .before .before .before .before .before .args .letter .now) (c .before .before .before .before .before .before .before .before .before .before .before .before .before .before .before .args .low .now) (c .before .before .before .before .before .before .before .before .before .before .before .before .before .before .before .args .high .now) (c .before .before .before .before .before .before .before .before .before .before .before .before .before .before .before .args .used) (applyQuestion (c .before .before .before .before .before .before .before .before .before .before .before .before .before .before .before .args .used) (c .before .before .before .before .before .before .before .before .before .before .before .before .before .before .before .args .a) (c .before .before .before .before .before .before .before .before .before .before .before .before .before .before .before .args .b)) (λ t. applied (c .before .before .before .before .before .before .before .before .before .before .before .before .before .before .before .args .k) t (c .before .before .before .before .before .before .before .before .before .before .before .before .before .before .before .args .o) (c .before .before .before .before .before .before .before .before .before .before .before .before .before .before .before .args .a) (c .before .before .before .before .before .before .before .before .before .before .before .before .before .before .before .args .b)) (c .before .before .before .before .before .before .before .before .before .before .before .before .before .before .before .pre .0) (c .before .before .before .before .before .before .sound .ensures) (not-false (c .before .before .before .before .before .before .sound .result) (c .before .before .before .if1 .left)) (sym (c .before .before .apply-asked .ensures) ∙ not-true (c .before .before .apply-asked .result) (c .before .if2 .taken)) (c .refused2 .ensures))
 
 apply-requires : tie.Need-apply-requires
-apply-requires c κs = (judged-open (c .before .before .before .before .before .before .before .before .before .before .before .before .before .before .before .before .before .before .pre .0) (c .before .before .before .before .before .before .before .before .before .sound .ensures) (not-false (c .before .before .before .before .before .before .before .before .before .sound .result) (c .before .before .before .before .before .before .if1 .left)) (asked-few (c .before .before .before .before .before .before .before .before .before .before .before .before .before .before .before .before .before .before .args .k) _ (sym (c .before .before .before .before .before .apply-asked .ensures) ∙ not-false (c .before .before .before .before .before .apply-asked .result) (c .before .before .before .before .if2 .left))), (whole-operand (apply-asked (c .before .before .before .before .before .before .before .before .before .before .before .before .before .before .before .before .before .before .args .used) (c .before .before .before .before .before .before .before .before .before .before .before .before .before .before .before .before .before .before .args .a) (c .before .before .before .before .before .before .before .before .before .before .before .before .before .before .before .before .before .before .args .b) (tableOf (columns (c .before .before .before .before .before .before .before .before .before .before .before .before .before .before .before .before .before .before .args .letter .now) (c .before .before .before .before .before .before .before .before .before .before .before .before .before .before .before .before .before .before .args .low .now) (c .before .before .before .before .before .before .before .before .before .before .before .before .before .before .before .before .before .before .args .high .now)) (c .before .before .before .before .before .before .before .before .before .before .before .before .before .before .before .before .before .before .args .used)) (asked-rest (c .before .before .before .before .before .before .before .before .before .before .before .before .before .before .before .before .before .before .args .k) _ (sym (c .before .before .before .before .before .apply-asked .ensures) ∙ not-false (c .before .before .before .before .before .apply-asked .result) (c .before .before .before .before .if2 .left))) .0), whole-operand (apply-asked (c .before .before .before .before .before .before .before .before .before .before .before .before .before .before .before .before .before .before .args .used) (c .before .before .before .before .before .before .before .before .before .before .before .before .before .before .before .before .before .before .args .a) (c .before .before .before .before .before .before .before .before .before .before .before .before .before .before .before .before .before .before .args .b) (tableOf (columns (c .before .before .before .before .before .before .before .before .before .before .before .before .before .before .before .before .before .before .args .letter .now) (c .before .before .before .before .before .before .before .before .before .before .before .before .before .before .before .before .before .before .args .low .now) (c .before .before .before .before .before .before .before .before .before .before .before .before .before .before .before .before .before .before .args .high .now)) (c .before .before .before .before .before .before .before .before .before .before .before .before .before .before .before .before .before .before .args .used)) (asked-rest (c .before .before .before .before .before .before .before .before .before .before .before .before .before .before .before .before .before .before .args .k) _ (sym (c .before .before .before .before .before .apply-asked .ensures) ∙ not-false (c .before .before .before .before .before .apply-asked .result) (c .before .before .before .before .if2 .left))) .1)))
+apply-requires c κs = (judged-open (c .before .before .before .before .before .before .before .before .before .sound .ensures) (not-false (c .before .before .before .before .before .before .before .before .before .sound .result) (c .before .before .before .before .before .before .if1 .left)) (asked-few (c .before .before .before .before .before .before .before .before .before .before .before .before .before .before .before .before .before .before .args .k) _ (sym (c .before .before .before .before .before .apply-asked .ensures) ∙ not-false (c .before .before .before .before .before .apply-asked .result) (c .before .before .before .before .if2 .left))), (whole-operand (apply-asked (c .before .before .before .before .before .before .before .before .before .before .before .before .before .before .before .before .before .before .args .used) (c .before .before .before .before .before .before .before .before .before .before .before .before .before .before .before .before .before .before .args .a) (c .before .before .before .before .before .before .before .before .before .before .before .before .before .before .before .before .before .before .args .b) (tableOf (columns (c .before .before .before .before .before .before .before .before .before .before .before .before .before .before .before .before .before .before .args .letter .now) (c .before .before .before .before .before .before .before .before .before .before .before .before .before .before .before .before .before .before .args .low .now) (c .before .before .before .before .before .before .before .before .before .before .before .before .before .before .before .before .before .before .args .high .now)) (c .before .before .before .before .before .before .before .before .before .before .before .before .before .before .before .before .before .before .args .used)) (asked-rest (c .before .before .before .before .before .before .before .before .before .before .before .before .before .before .before .before .before .before .args .k) _ (sym (c .before .before .before .before .before .apply-asked .ensures) ∙ not-false (c .before .before .before .before .before .apply-asked .result) (c .before .before .before .before .if2 .left))) .0), whole-operand (apply-asked (c .before .before .before .before .before .before .before .before .before .before .before .before .before .before .before .before .before .before .args .used) (c .before .before .before .before .before .before .before .before .before .before .before .before .before .before .before .before .before .before .args .a) (c .before .before .before .before .before .before .before .before .before .before .before .before .before .before .before .before .before .before .args .b) (tableOf (columns (c .before .before .before .before .before .before .before .before .before .before .before .before .before .before .before .before .before .before .args .letter .now) (c .before .before .before .before .before .before .before .before .before .before .before .before .before .before .before .before .before .before .args .low .now) (c .before .before .before .before .before .before .before .before .before .before .before .before .before .before .before .before .before .before .args .high .now)) (c .before .before .before .before .before .before .before .before .before .before .before .before .before .before .before .before .before .before .args .used)) (asked-rest (c .before .before .before .before .before .before .before .before .before .before .before .before .before .before .before .before .before .before .args .k) _ (sym (c .before .before .before .before .before .apply-asked .ensures) ∙ not-false (c .before .before .before .before .before .apply-asked .result) (c .before .before .before .before .if2 .left))) .1)))
 
 closed-requires : tie.Need-closed-requires
 closed-requires c κs = tt

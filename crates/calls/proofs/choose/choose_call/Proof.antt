@@ -6,7 +6,8 @@ use Rattle.diagram.specs.Operation.{chosen}
 use Rattle.diagram.proofs.Calls.{choose-is, chooseQuestion}
 use Rattle.diagram.proofs.Columns.{lengths-record}
 use Rattle.table.specs.Holds.{columns}
-use Rattle.calls.proofs.Answers.{stored-buffer, prefix-long, prefix-sized}
+use Rattle.table.proofs.Entering.{part-long, part-ready}
+use Rattle.calls.proofs.Answers.{stored-buffer}
 use Rattle.calls.proofs.choose.choose_call.Statement.{statement}
 use Rattle.calls.proofs.choose.choose_call.Tie as tie
 
@@ -35,10 +36,10 @@ array-borrow-prefix-index : tie.Need-array-borrow-prefix-index
 array-borrow-prefix-index c = c .before .before .before .index-len .ensures .most
 
 slice-aggregate-choose-open : tie.Need-slice-aggregate-choose-open
-slice-aggregate-choose-open c = prefix-long (c .before .before .before .before .index-len .result) 131072 (c .before .before .before .before .index-len .ensures .most)
+slice-aggregate-choose-open c = sym (part-long (c .before .before .before .before .index-len .result) 131072 (c .before .before .before .before .index-len .ensures .most))
 
 choose-open-requires : tie.Need-choose-open-requires
-choose-open-requires c κs = prefix-sized (c .before .before .before .before .index-len .result) 131072 (sym (c .before .before .before .before .before .before .lengths-legal .ensures) ∙ not-false (c .before .before .before .before .before .before .lengths-legal .result) (c .before .before .before .before .before .if1 .left)) (c .before .before .before .before .index-len .ensures) (c .before .before .before .before .index-len .ensures .most)
+choose-open-requires c κs = part-ready _ _ _ (c .before .before .before .before .index-len .result) 131072 (sym (c .before .before .before .before .before .before .lengths-legal .ensures) ∙ not-false (c .before .before .before .before .before .before .lengths-legal .result) (c .before .before .before .before .before .if1 .left)) (c .before .before .before .before .index-len .ensures) (c .before .before .before .before .index-len .ensures .most)
 
 same-length-4 : tie.Need-same-length-4
 same-length-4 c = omega (arith, c .before .before .before .before .before .before .before .choose-open .kept .0)

@@ -6,7 +6,8 @@ use Rattle.diagram.specs.Operation.{letterFixed}
 use Rattle.diagram.specs.Call.{tableOf}
 use Rattle.diagram.proofs.Calls.{fix-is, fixQuestion, fix-asked}
 use Rattle.table.specs.Holds.{columns}
-use Rattle.calls.proofs.Answers.{judged-open, judged-passed, whole-operand, stored-unsound, stored-question, stored-closed, asked-few, asked-rest}
+use Rattle.functions.proofs.Carry.{judged-open, whole-operand}
+use Rattle.calls.proofs.Answers.{judged-passed, stored-unsound, stored-question, stored-closed, asked-few, asked-rest}
 use Rattle.calls.proofs.fix.fix_open.Statement.{statement}
 use Rattle.calls.proofs.fix.fix_open.Tie as tie
 
@@ -53,7 +54,7 @@ returns-2 : tie.Need-returns-2
 returns-2 c = rw fix-is (stored-question (c .before .before .before .before .before .before .before .before .before .before .before .before .before .before .before .args .k) (c .before .before .before .before .before .before .before .before .before .before .before .before .before .before .before .args .letter .now) (c .before .before .before .before .before .before .before .before .before .before .before .before .before .before .before .args .low .now) (c .before .before .before .before .before .before .before .before .before .before .before .before .before .before .before .args .high .now) (c .before .before .before .before .before .before .before .before .before .before .before .before .before .before .before .args .used) (fixQuestion (c .before .before .before .before .before .before .before .before .before .before .before .before .before .before .before .args .k) (c .before .before .before .before .before .before .before .before .before .before .before .before .before .before .before .args .used) (c .before .before .before .before .before .before .before .before .before .before .before .before .before .before .before .args .e) (c .before .before .before .before .before .before .before .before .before .before .before .before .before .before .before .args .j) (c .before .before .before .before .before .before .before .before .before .before .before .before .before .before .before .args .bit)) (λ t. letterFixed (c .before .before .before .before .before .before .before .before .before .before .before .before .before .before .before .args .k) t (c .before .before .before .before .before .before .before .before .before .before .before .before .before .before .before .args .e) (c .before .before .before .before .before .before .before .before .before .before .before .before .before .before .before .args .j) (c .before .before .before .before .before .before .before .before .before .before .before .before .before .before .before .args .bit)) (c .before .before .before .before .before .before .before .before .before .before .before .before .before .before .before .pre .0) (c .before .before .before .before .before .before .sound .ensures) (not-false (c .before .before .before .before .before .before .sound .result) (c .before .before .before .if1 .left)) (sym (c .before .before .fix-asked .ensures) ∙ not-true (c .before .before .fix-asked .result) (c .before .if2 .taken)) (c .refused2 .ensures))
 
 fix-requires : tie.Need-fix-requires
-fix-requires c κs = (judged-open (c .before .before .before .before .before .before .before .before .before .before .before .before .before .before .before .before .before .before .pre .0) (c .before .before .before .before .before .before .before .before .before .sound .ensures) (not-false (c .before .before .before .before .before .before .before .before .before .sound .result) (c .before .before .before .before .before .before .if1 .left)) (asked-few (c .before .before .before .before .before .before .before .before .before .before .before .before .before .before .before .before .before .before .args .k) _ (sym (c .before .before .before .before .before .fix-asked .ensures) ∙ not-false (c .before .before .before .before .before .fix-asked .result) (c .before .before .before .before .if2 .left))), (whole-operand (fix-asked (c .before .before .before .before .before .before .before .before .before .before .before .before .before .before .before .before .before .before .args .k) (c .before .before .before .before .before .before .before .before .before .before .before .before .before .before .before .before .before .before .args .used) (c .before .before .before .before .before .before .before .before .before .before .before .before .before .before .before .before .before .before .args .e) (c .before .before .before .before .before .before .before .before .before .before .before .before .before .before .before .before .before .before .args .j) (c .before .before .before .before .before .before .before .before .before .before .before .before .before .before .before .before .before .before .args .bit) (tableOf (columns (c .before .before .before .before .before .before .before .before .before .before .before .before .before .before .before .before .before .before .args .letter .now) (c .before .before .before .before .before .before .before .before .before .before .before .before .before .before .before .before .before .before .args .low .now) (c .before .before .before .before .before .before .before .before .before .before .before .before .before .before .before .before .before .before .args .high .now)) (c .before .before .before .before .before .before .before .before .before .before .before .before .before .before .before .before .before .before .args .used)) (asked-rest (c .before .before .before .before .before .before .before .before .before .before .before .before .before .before .before .before .before .before .args .k) _ (sym (c .before .before .before .before .before .fix-asked .ensures) ∙ not-false (c .before .before .before .before .before .fix-asked .result) (c .before .before .before .before .if2 .left))) .0), fix-asked (c .before .before .before .before .before .before .before .before .before .before .before .before .before .before .before .before .before .before .args .k) (c .before .before .before .before .before .before .before .before .before .before .before .before .before .before .before .before .before .before .args .used) (c .before .before .before .before .before .before .before .before .before .before .before .before .before .before .before .before .before .before .args .e) (c .before .before .before .before .before .before .before .before .before .before .before .before .before .before .before .before .before .before .args .j) (c .before .before .before .before .before .before .before .before .before .before .before .before .before .before .before .before .before .before .args .bit) (tableOf (columns (c .before .before .before .before .before .before .before .before .before .before .before .before .before .before .before .before .before .before .args .letter .now) (c .before .before .before .before .before .before .before .before .before .before .before .before .before .before .before .before .before .before .args .low .now) (c .before .before .before .before .before .before .before .before .before .before .before .before .before .before .before .before .before .before .args .high .now)) (c .before .before .before .before .before .before .before .before .before .before .before .before .before .before .before .before .before .before .args .used)) (asked-rest (c .before .before .before .before .before .before .before .before .before .before .before .before .before .before .before .before .before .before .args .k) _ (sym (c .before .before .before .before .before .fix-asked .ensures) ∙ not-false (c .before .before .before .before .before .fix-asked .result) (c .before .before .before .before .if2 .left))) .1, fix-asked (c .before .before .before .before .before .before .before .before .before .before .before .before .before .before .before .before .before .before .args .k) (c .before .before .before .before .before .before .before .before .before .before .before .before .before .before .before .before .before .before .args .used) (c .before .before .before .before .before .before .before .before .before .before .before .before .before .before .before .before .before .before .args .e) (c .before .before .before .before .before .before .before .before .before .before .before .before .before .before .before .before .before .before .args .j) (c .before .before .before .before .before .before .before .before .before .before .before .before .before .before .before .before .before .before .args .bit) (tableOf (columns (c .before .before .before .before .before .before .before .before .before .before .before .before .before .before .before .before .before .before .args .letter .now) (c .before .before .before .before .before .before .before .before .before .before .before .before .before .before .before .before .before .before .args .low .now) (c .before .before .before .before .before .before .before .before .before .before .before .before .before .before .before .before .before .before .args .high .now)) (c .before .before .before .before .before .before .before .before .before .before .before .before .before .before .before .before .before .before .args .used)) (asked-rest (c .before .before .before .before .before .before .before .before .before .before .before .before .before .before .before .before .before .before .args .k) _ (sym (c .before .before .before .before .before .fix-asked .ensures) ∙ not-false (c .before .before .before .before .before .fix-asked .result) (c .before .before .before .before .if2 .left))) .2))
+fix-requires c κs = (judged-open (c .before .before .before .before .before .before .before .before .before .sound .ensures) (not-false (c .before .before .before .before .before .before .before .before .before .sound .result) (c .before .before .before .before .before .before .if1 .left)) (asked-few (c .before .before .before .before .before .before .before .before .before .before .before .before .before .before .before .before .before .before .args .k) _ (sym (c .before .before .before .before .before .fix-asked .ensures) ∙ not-false (c .before .before .before .before .before .fix-asked .result) (c .before .before .before .before .if2 .left))), (whole-operand (fix-asked (c .before .before .before .before .before .before .before .before .before .before .before .before .before .before .before .before .before .before .args .k) (c .before .before .before .before .before .before .before .before .before .before .before .before .before .before .before .before .before .before .args .used) (c .before .before .before .before .before .before .before .before .before .before .before .before .before .before .before .before .before .before .args .e) (c .before .before .before .before .before .before .before .before .before .before .before .before .before .before .before .before .before .before .args .j) (c .before .before .before .before .before .before .before .before .before .before .before .before .before .before .before .before .before .before .args .bit) (tableOf (columns (c .before .before .before .before .before .before .before .before .before .before .before .before .before .before .before .before .before .before .args .letter .now) (c .before .before .before .before .before .before .before .before .before .before .before .before .before .before .before .before .before .before .args .low .now) (c .before .before .before .before .before .before .before .before .before .before .before .before .before .before .before .before .before .before .args .high .now)) (c .before .before .before .before .before .before .before .before .before .before .before .before .before .before .before .before .before .before .args .used)) (asked-rest (c .before .before .before .before .before .before .before .before .before .before .before .before .before .before .before .before .before .before .args .k) _ (sym (c .before .before .before .before .before .fix-asked .ensures) ∙ not-false (c .before .before .before .before .before .fix-asked .result) (c .before .before .before .before .if2 .left))) .0), fix-asked (c .before .before .before .before .before .before .before .before .before .before .before .before .before .before .before .before .before .before .args .k) (c .before .before .before .before .before .before .before .before .before .before .before .before .before .before .before .before .before .before .args .used) (c .before .before .before .before .before .before .before .before .before .before .before .before .before .before .before .before .before .before .args .e) (c .before .before .before .before .before .before .before .before .before .before .before .before .before .before .before .before .before .before .args .j) (c .before .before .before .before .before .before .before .before .before .before .before .before .before .before .before .before .before .before .args .bit) (tableOf (columns (c .before .before .before .before .before .before .before .before .before .before .before .before .before .before .before .before .before .before .args .letter .now) (c .before .before .before .before .before .before .before .before .before .before .before .before .before .before .before .before .before .before .args .low .now) (c .before .before .before .before .before .before .before .before .before .before .before .before .before .before .before .before .before .before .args .high .now)) (c .before .before .before .before .before .before .before .before .before .before .before .before .before .before .before .before .before .before .args .used)) (asked-rest (c .before .before .before .before .before .before .before .before .before .before .before .before .before .before .before .before .before .before .args .k) _ (sym (c .before .before .before .before .before .fix-asked .ensures) ∙ not-false (c .before .before .before .before .before .fix-asked .result) (c .before .before .before .before .if2 .left))) .1, fix-asked (c .before .before .before .before .before .before .before .before .before .before .before .before .before .before .before .before .before .before .args .k) (c .before .before .before .before .before .before .before .before .before .before .before .before .before .before .before .before .before .before .args .used) (c .before .before .before .before .before .before .before .before .before .before .before .before .before .before .before .before .before .before .args .e) (c .before .before .before .before .before .before .before .before .before .before .before .before .before .before .before .before .before .before .args .j) (c .before .before .before .before .before .before .before .before .before .before .before .before .before .before .before .before .before .before .args .bit) (tableOf (columns (c .before .before .before .before .before .before .before .before .before .before .before .before .before .before .before .before .before .before .args .letter .now) (c .before .before .before .before .before .before .before .before .before .before .before .before .before .before .before .before .before .before .args .low .now) (c .before .before .before .before .before .before .before .before .before .before .before .before .before .before .before .before .before .before .args .high .now)) (c .before .before .before .before .before .before .before .before .before .before .before .before .before .before .before .before .before .before .args .used)) (asked-rest (c .before .before .before .before .before .before .before .before .before .before .before .before .before .before .before .before .before .before .args .k) _ (sym (c .before .before .before .before .before .fix-asked .ensures) ∙ not-false (c .before .before .before .before .before .fix-asked .result) (c .before .before .before .before .if2 .left))) .2))
 
 closed-requires : tie.Need-closed-requires
 closed-requires c κs = tt

@@ -6,7 +6,8 @@ use Rattle.diagram.specs.Call.{numberCall}
 use Rattle.diagram.proofs.Calls.{numberQuestion}
 use Rattle.diagram.proofs.Columns.{lengths-record}
 use Rattle.table.specs.Holds.{columns}
-use Rattle.calls.proofs.Answers.{told-buffer, prefix-long, prefix-sized}
+use Rattle.table.proofs.Entering.{part-long, part-ready}
+use Rattle.calls.proofs.Answers.{told-buffer}
 use Rattle.calls.proofs.number.number_call.Statement.{statement}
 use Rattle.calls.proofs.number.number_call.Tie as tie
 
@@ -27,10 +28,10 @@ array-borrow-prefix-index : tie.Need-array-borrow-prefix-index
 array-borrow-prefix-index c = c .index-len .ensures .most
 
 slice-aggregate-number-open : tie.Need-slice-aggregate-number-open
-slice-aggregate-number-open c = prefix-long (c .before .index-len .result) 131072 (c .before .index-len .ensures .most)
+slice-aggregate-number-open c = sym (part-long (c .before .index-len .result) 131072 (c .before .index-len .ensures .most))
 
 number-open-requires : tie.Need-number-open-requires
-number-open-requires c κs = prefix-sized (c .before .index-len .result) 131072 (sym (c .before .before .before .lengths-legal .ensures) ∙ not-false (c .before .before .before .lengths-legal .result) (c .before .before .if1 .left)) (c .before .index-len .ensures) (c .before .index-len .ensures .most)
+number-open-requires c κs = part-ready _ _ _ (c .before .index-len .result) 131072 (sym (c .before .before .before .lengths-legal .ensures) ∙ not-false (c .before .before .before .lengths-legal .result) (c .before .before .if1 .left)) (c .before .index-len .ensures) (c .before .index-len .ensures .most)
 
 returns-2 : tie.Need-returns-2
 returns-2 c = c .before .number-open .ensures

@@ -7,7 +7,8 @@ use borrow.Fn.PlainCycle.{Measures, is, falls, and}
 use Rattle.net.specs.Net.{netCircuit}
 use Rattle.evaluate.proofs.Entries.{evaluable-entries, evaluable-more}
 use Rattle.evaluate.proofs.Remaining.{left-evaluable, left-fewer}
-use Rattle.evaluate.proofs.Step.{sized-again, again-open, again-entries, lows-evaluable, lows-full, next-open, highs-evaluable, highs-full, both-hold, root-stored}
+use Rattle.table.proofs.Entering.{sized-again}
+use Rattle.evaluate.proofs.Step.{again-open, again-entries, lows-evaluable, lows-full, next-open, highs-evaluable, highs-full, both-hold, root-stored}
 use Rattle.evaluate.proofs.split.evaluate.Reads as evaluate
 use Rattle.evaluate.proofs.split.evaluate.Kinds as evaluate-kinds
 use Rattle.evaluate.proofs.split.+evaluate.Lts-evaluate as evaluate-lts

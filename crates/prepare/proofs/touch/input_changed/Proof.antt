@@ -2,7 +2,8 @@
 use native.Mathlib.Omega.{arith}
 use mathlib.Core.Path.{_∙_}
 use borrow.Author.Tests.{eq-eqb, ne-eqb}
-use Rattle.prepare.proofs.Reading.{laid-input, laid-rail, if-so, if-not}
+use Rattle.net.proofs.Laying.{input-at}
+use Rattle.prepare.proofs.Reading.{laid-rail, if-so, if-not}
 use Rattle.prepare.proofs.touch.input_changed.Statement.{statement}
 use Rattle.prepare.proofs.touch.input_changed.Tie as tie
 
@@ -25,10 +26,10 @@ array-read-result : tie.Need-array-read-result
 array-read-result c = omega (arith, c .before .before .before .pre .1, c .before .before .before .pre .0 .within .nodes)
 
 returns-2 : tie.Need-returns-2
-returns-2 c = if-so _ _ (laid-input _ (c .before .before .before .pre .0) _ (c .before .before .if1 .left) (c .before .before .before .pre .1) ∙ eq-eqb _ 1 (c .if2 .taken))
+returns-2 c = if-so _ _ (input-at _ _ (c .before .before .if1 .left) (c .before .before .before .pre .1) ∙ eq-eqb _ 1 (c .if2 .taken))
 
 returns-3 : tie.Need-returns-3
-returns-3 c = if-not _ _ (laid-input _ (c .before .before .before .pre .0) _ (c .before .before .if1 .left) (c .before .before .before .pre .1) ∙ ne-eqb _ 1 (c .if2 .left))
+returns-3 c = if-not _ _ (input-at _ _ (c .before .before .if1 .left) (c .before .before .before .pre .1) ∙ ne-eqb _ 1 (c .if2 .left))
 
 pub input-changed-spec : {M : Type 1} → statement M
 input-changed-spec =

@@ -8,7 +8,7 @@ use borrow.Author.Tests.{not-true, not-false}
 use borrow.Author.Needs.{needs}
 use Rattle.format.specs.Circuit.{every}
 use Rattle.records.specs.Chain.{blankAt}
-use Rattle.records.proofs.Every.{every-none, every-more, every-broken, every-done}
+use Rattle.format.proofs.Every.{every-none, every-more, every-broken, every-done}
 use Rattle.records.proofs.blanks.records_blank.Statement.{statement}
 use Rattle.records.proofs.blanks.records_blank.Tie as tie
 

@@ -4,7 +4,8 @@ use mathlib.Core.Path.{sym, _∙_}
 use native.Mathlib.Omega.{arith}
 use borrow.Author.Tests.{not-true, not-false}
 use borrow.Author.Needs.{needs}
-use Rattle.records.proofs.Linked.{link-bound, Walked, walked-none, walked-more, walked-broken, walked-late, walked-done}
+use Rattle.format.proofs.Chain.{member}
+use Rattle.records.proofs.Linked.{Walked, walked-none, walked-more, walked-broken, walked-late, walked-done}
 use Rattle.records.proofs.chains.chain.Statement.{statement}
 use Rattle.records.proofs.chains.chain.Tie as tie
 
@@ -35,7 +36,7 @@ array-write-records c = omega arith
 next-at-requires : tie.Need-next-at-requires Inv-loop μ-loop
 next-at-requires c κs =
     let s = c .before .before .before .before .before .args in
-    omega (arith, link-bound (s .file .now) (s .count) (s .kind) (c .before .before .before .loop .r) (sym (c .before .is-link .ensures) ∙ not-false _ (c .if1 .left)))
+    omega (arith, member (s .file .now) (s .count) (s .kind) (c .before .before .before .loop .r) (sym (c .before .is-link .ensures) ∙ not-false _ (c .if1 .left)) .most)
 
 add-k : tie.Need-add-k Inv-loop μ-loop
 add-k c = omega arith

@@ -4,7 +4,7 @@ use mathlib.Core.Path.{sym}
 use Rattle.diagram.proofs.Columns.{lengths-record}
 use Rattle.table.specs.Holds.{columns}
 use Rattle.table.proofs.Entering.{part-long, part-ready}
-use Rattle.run.proofs.Cells.{laid-own}
+use Rattle.net.proofs.Laying.{laid-own}
 use Rattle.run.proofs.ask.ask_legal.Statement.{statement}
 use Rattle.run.proofs.ask.ask_legal.Tie as tie
 

@@ -5,7 +5,7 @@ use native.Mathlib.Omega.{arith}
 use Rattle.diagram.proofs.Columns.{lengths-record}
 use Rattle.table.specs.Holds.{columns}
 use Rattle.table.proofs.Entering.{part-long, part-ready}
-use Rattle.run.proofs.Cells.{laid-own}
+use Rattle.net.proofs.Laying.{laid-own}
 use Rattle.run.proofs.Ends.{working-lengths, zeroed-all, done-went}
 use Rattle.run.proofs.go.on_legal.Statement.{statement}
 use Rattle.run.proofs.go.on_legal.Tie as tie

@@ -8,8 +8,8 @@ use Rattle.units.specs.declared.Picoseconds.{Picoseconds}
 use Rattle.units.specs.Rules.{delay}
 use Rattle.rules.specs.Delay.{Load}
 use Rattle.rules.specs.Step.{delayTo}
+use Rattle.net.proofs.Laying.{nodes-length}
 use Rattle.walk.specs.Leaf.{leafLoad, leafDelay}
-use Rattle.walk.proofs.Cell.{net-nodes}
 use Rattle.walk.proofs.Next.{delay-small}
 use Rattle.walk.proofs.change.delay_to.Statement.{statement}
 use Rattle.walk.proofs.change.delay_to.Tie as tie
@@ -33,7 +33,7 @@ returns c =
     let e : c .delay .result .0 ≡ leafDelay net leaf (start .args .new) n =
     ap (λ (d : Picoseconds). d .0) (c .delay .ensures)
     ∙ ap (λ (load : Load). delay (load .resistance) (load .charge) .0)
-    (c .before .before .node-load .ensures ∙ ap (λ (a : ℕ). leafLoad net leaf a (start .args .new) none n) (c .before .before .before .read .ensures ∙ sym (net-nodes net))) in
+    (c .before .before .node-load .ensures ∙ ap (λ (a : ℕ). leafLoad net leaf a (start .args .new) none n) (c .before .before .before .read .ensures ∙ sym (nodes-length net))) in
     (e, omega (arith, e, delay-small net leaf (start .pre .0) n (start .pre .1) (start .args .new)))
 
 pub delay-to-spec : {M : Type 1} → statement M
