@@ -21,7 +21,7 @@ use Rattle.functions.proofs.Carry.{legible-sound, legible-long, letter-at, low-
 use Rattle.functions.proofs.Reading.{number-leaf}
 use Rattle.record.specs.Numbers.{held, among, allAmong, entryAmong, leastOf}
 use Rattle.record.proofs.Loops.{same-tests}
-use Rattle.record.proofs.Least.{least-never, least-greatest}
+use Rattle.record.proofs.LeastBelow.{least-never, least-greatest}
 
 module _ {letters : ℕ} {l w h : List ℕ} {used : ℕ} (o : Legible letters l w h used) (e : ℕ) (g : e < used) where
   within : e < length (held l w h used)

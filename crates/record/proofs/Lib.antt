@@ -1,6 +1,7 @@
 pub mod Record
 pub mod Loops
-pub mod Least
+pub mod LeastBelow
 pub mod Entry
+pub mod Leasts
 pub mod Net
 pub mod Read

@@ -34,7 +34,7 @@ use Rattle.record.specs.declared.Run.{Run}
 use Rattle.record.specs.Record.{runOf}
 use Rattle.record.specs.Numbers.{held, among, allAmong, entryAmong, entriesAmong, restsAt, leastAmong, afterNow, scheduledAfter}
 use Rattle.record.proofs.Loops.{every-below}
-use Rattle.record.proofs.Least.{least-never, least-min, least-constant, least-swap, soonest-at}
+use Rattle.record.proofs.LeastBelow.{least-never, least-min, least-constant, least-swap, soonest-at}
 use Rattle.record.proofs.Net.{nodes-count, input-at, times, times-count, time-at, inputs-below}
 
 -- 0 or 1

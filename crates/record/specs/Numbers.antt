@@ -45,6 +45,10 @@ leastOf letters t e = leastBelow (patterns letters) (numberAt letters t e)
 abbrev pub leastAmong : ℕ → Table → List ℕ → ℕ → ℕ
 leastAmong letters t es n = leastBelow n (λ i. leastOf letters t (getD es i 0))
 
+-- the same, by the least numbers in a column
+abbrev pub leastListed : List ℕ → List ℕ → ℕ → ℕ
+leastListed least es n = leastBelow n (λ i. getD least (getD es i 0) 0)
+
 -- a time that is after now, or never
 abbrev pub afterNow : ℕ → ℕ → ℕ
 afterNow now time = cond (ltb now time) time never

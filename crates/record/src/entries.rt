@@ -1,8 +1,7 @@
 // What is read off one entry of a lent table, and off the first entries of an array.
 use functions::numbers;
 ghost use mathlib.Core.Path.{_≡_};
-ghost use Prim.Native.Nat.{ℕ, _<_, _≤_};
-ghost use lib.ListN.{getD};
+ghost use Prim.Native.Nat.{_<_, _≤_};
 ghost use Rattle.functions.specs.Open.{Legible};
 ghost use Rattle.record.specs.Numbers.{held};
 ghost use Rattle.record.specs.Numbers as defined;
@@ -84,42 +83,4 @@ pub fn entries_among(
         i += 1;
     }
     true
-}
-
-// The least number of entry `e` over all patterns.
-fn least_of(letter: &[u32], low: &[u32], high: &[u32], used: u32, k: u32, e: u32) -> u32
-    requires { ⌜ Legible k (now letter) (now low) (now high) used × (e < used) ⌝ }
-    ensures { λ r. ⌜ r ≡ defined.leastOf k (held (now (letter .entry)) (now (low .entry)) (now (high .entry)) used) e ⌝ }
-{
-    let i = e as usize;
-    if letter[i] == numbers::TERMINAL {
-        return low[i];
-    }
-    let a = least_of(letter, low, high, used, k, low[i]);
-    let b = least_of(letter, low, high, used, k, high[i]);
-    numbers::least(a, b)
-}
-
-// The same of the first `n` entries of an array, or never.
-pub fn least_among(
-    letter: &[u32],
-    low: &[u32],
-    high: &[u32],
-    used: u32,
-    k: u32,
-    entries: [u32; 24],
-    n: u32,
-) -> u32
-    requires { ⌜ Legible k (now letter) (now low) (now high) used × (n ≤ 24) × ((i : ℕ) → i < n → getD entries i 0 < used) ⌝ }
-    ensures { λ r. ⌜ r ≡ defined.leastAmong k (held (now (letter .entry)) (now (low .entry)) (now (high .entry)) used) entries n ⌝ }
-{
-    let count = n as usize;
-    let mut all = numbers::NEVER;
-    let mut i = 0;
-    while i < count {
-        let one = least_of(letter, low, high, used, k, entries[i]);
-        all = numbers::least(all, one);
-        i += 1;
-    }
-    all
 }

@@ -2,13 +2,15 @@
 // Promise: each is that of the definitions of `rules`, for the cell that the flat column lays out and the table that the columns hold.
 // Internal to our crates: a call refuses first, and shows what is required here.
 mod entries;
+pub mod least;
 mod places;
 
 use functions::numbers;
 use functions::read;
 ghost use mathlib.Core.Path.{_≡_};
 ghost use mathlib.Core.Bool.{true};
-ghost use Prim.Native.Nat.{_+_, _<_};
+ghost use Prim.Native.Nat.{_+_, _<_, _≤_};
+ghost use lib.ListN.{length};
 ghost use Rattle.rules.specs.State.{valueAt, changeAt};
 ghost use Rattle.rules.specs.Run.{stateOf, timeAfter, runSound};
 ghost use Rattle.rules.specs.Call.{momentGiven};
@@ -18,6 +20,7 @@ ghost use Rattle.net.specs.Laid.{Laid};
 ghost use Rattle.net.specs.Net.{nodesPlace, lettersPlace, at, netCircuit};
 ghost use Rattle.record.specs.Record.{runOf};
 ghost use Rattle.record.specs.Numbers.{held};
+ghost use Rattle.record.specs.Leasts.{Leasts};
 
 // The time, the used count, and for each node record the entries of its value and of its next change. Places past the node
 // records are not looked at.
@@ -70,17 +73,27 @@ pub fn run_sound(net: &[u32], letter: &[u32], low: &[u32], high: &[u32], r: Run)
     places::inputs_rest(net, changes)
 }
 
-// The time of the next step, or never.
-pub fn time_after(net: &[u32], letter: &[u32], low: &[u32], high: &[u32], r: Run) -> u32
+// The time of the next step, or never; the column of least numbers is filled in from entry `done` on.
+pub fn time_after(
+    net: &[u32],
+    letter: &[u32],
+    low: &[u32],
+    high: &[u32],
+    r: Run,
+    least: &mut [u32],
+    done: u32,
+) -> u32
     requires { ⌜ Laid (netCircuit (now net)) (now net) × Legible (at (now net) lettersPlace) (now letter) (now low) (now high) (r .used) × (runSound (netCircuit (now net)) (held (now letter) (now low) (now high) (r .used)) (runOf (netCircuit (now net)) r) ≡ true) ⌝ }
-    ensures { λ x. ⌜ x ≡ timeAfter (netCircuit (now (net .entry))) (momentGiven (columns (now (letter .entry)) (now (low .entry)) (now (high .entry))) (runOf (netCircuit (now (net .entry))) r)) ⌝ }
+    requires { ⌜ (done ≤ r .used) × (r .used ≤ length (now least)) × Leasts (at (now net) lettersPlace) (held (now letter) (now low) (now high) (r .used)) done (now least) ⌝ }
+    ensures { λ x. ⌜ (x ≡ timeAfter (netCircuit (now (net .entry))) (momentGiven (columns (now (letter .entry)) (now (low .entry)) (now (high .entry))) (runOf (netCircuit (now (net .entry))) r))) × (length (now (least .exit)) ≡ length (now (least .entry))) × Leasts (at (now (net .entry)) lettersPlace) (held (now (letter .entry)) (now (low .entry)) (now (high .entry)) (r .used)) (r .used) (now (least .exit)) ⌝ }
 {
     let n = net[places::NODES];
     let k = net[places::LETTERS];
     let time = r.time;
     let used = r.used;
     let changes = r.changes;
-    let pending = entries::least_among(letter, low, high, used, k, changes, n);
+    least::fill(letter, low, high, used, k, least, done);
+    let pending = least::least_among(least, changes, n);
     let scheduled = places::scheduled_after(net, time);
     numbers::least(pending, scheduled)
 }

@@ -1,4 +1,4 @@
 pub mod Series
 pub mod Single
 pub mod Arriving
-pub mod Taking
+pub mod Flipping

@@ -1,4 +1,3 @@
 pub mod All
 pub mod First
 pub mod Arriving
-pub mod Taken

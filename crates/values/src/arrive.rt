@@ -1,19 +1,15 @@
 // Step rule 1 for all patterns: inputs scheduled at T take their source, inner nodes flip where their next change is T.
 use crate::Many;
-use crate::due::meets;
+use crate::flip::flip;
 use crate::source::source;
-use diagram::Operation;
-use functions::apply::apply;
 use net::inner::is_input;
 use record::Run;
 use table::Put;
 ghost use mathlib.Core.Path.{_≡_};
 ghost use mathlib.Core.Bool.{true};
 ghost use mathlib.Core.List.{map};
-ghost use Prim.Native.Nat.{ℕ, _+_, _<_};
+ghost use Prim.Native.Nat.{ℕ, suc, _+_, _<_};
 ghost use Rattle.diagram.specs.Store.{store};
-ghost use Rattle.diagram.specs.declared.Operation.the-variants.{Flip};
-ghost use Rattle.diagram.specs.Operation.{applied};
 ghost use Rattle.diagram.specs.Call.{tableOf};
 ghost use Rattle.table.specs.Holds.{columns, Outcome};
 ghost use Rattle.functions.specs.Open.{Open};
@@ -21,6 +17,7 @@ ghost use Rattle.rules.specs.State.{valueAt, nodeNumbers};
 ghost use Rattle.rules.specs.Step.{stepped};
 ghost use Rattle.rules.specs.Run.{storeAll, stateOf, runSound};
 ghost use Rattle.record.specs.Record.{runOf};
+ghost use Rattle.record.specs.Leasts.{Leasts};
 ghost use Rattle.net.specs.Net.{nodesPlace, lettersPlace, at as atPlace, netCircuit};
 ghost use Rattle.net.specs.Laid.{Laid};
 ghost use Rattle.values.specs.All.{OutcomeAll};
@@ -71,43 +68,7 @@ fn input_value(
     source(letter, low, high, index, used, net[net::LETTERS], byte)
 }
 
-// The value of an inner node after T: the present entry where its next change is T at no pattern.
-fn inner_value(
-    letter: &mut [u32],
-    low: &mut [u32],
-    high: &mut [u32],
-    index: &mut [u32],
-    used: u32,
-    k: u32,
-    time: u32,
-    value: u32,
-    change: u32,
-) -> Put
-    requires { ⌜ Open k (now letter) (now low) (now high) (now index) used × (value < used) × (change < used) ⌝ }
-    ensures { λ r. ⌜ Outcome (tableOf (columns (now (letter .entry)) (now (low .entry)) (now (high .entry))) used) (store k 0 (applied k (tableOf (columns (now (letter .entry)) (now (low .entry)) (now (high .entry))) used) (Flip time) value change) (tableOf (columns (now (letter .entry)) (now (low .entry)) (now (high .entry))) used)) (now (letter .exit)) (now (low .exit)) (now (high .exit)) (now (index .exit)) r ⌝ }
-{
-    if !meets(letter, low, high, used, k, change, time) {
-        return Put {
-            full: false,
-            entry: value,
-            used,
-        };
-    }
-    apply(
-        letter,
-        low,
-        high,
-        index,
-        used,
-        k,
-        Operation::Flip(time),
-        value,
-        change,
-        k,
-    )
-}
-
-// The value of node n after T.
+// The value of node n after T: an input takes its source, an inner node flips where its next change is T.
 fn value_after(
     net: &[u32],
     letter: &mut [u32],
@@ -119,24 +80,29 @@ fn value_after(
     n: u32,
     value: u32,
     change: u32,
+    least: &[u32],
 ) -> Put
     requires { ⌜ Laid (netCircuit (now net)) (now net) × Open (atPlace (now net) lettersPlace) (now letter) (now low) (now high) (now index) used ⌝ }
     requires { ⌜ (n < 2 + atPlace (now net) nodesPlace) × (value < used) × (change < used) ⌝ }
+    requires { ⌜ Leasts (atPlace (now net) lettersPlace) (tableOf (columns (now letter) (now low) (now high)) used) (suc change) (now least) ⌝ }
     ensures { λ r. ⌜ Outcome (tableOf (columns (now (letter .entry)) (now (low .entry)) (now (high .entry))) used) (store (atPlace (now (net .entry)) lettersPlace) 0 (valueAfter (atPlace (now (net .entry)) lettersPlace) (netCircuit (now (net .entry))) (tableOf (columns (now (letter .entry)) (now (low .entry)) (now (high .entry))) used) time n value change) (tableOf (columns (now (letter .entry)) (now (low .entry)) (now (high .entry))) used)) (now (letter .exit)) (now (low .exit)) (now (high .exit)) (now (index .exit)) r ⌝ }
 {
     if is_input(net, n) {
         return input_value(net, letter, low, high, index, used, time, n, value);
     }
-    inner_value(
+    let k = net[net::LETTERS];
+    flip(
         letter,
         low,
         high,
         index,
         used,
-        net[net::LETTERS],
+        k,
         time,
         value,
         change,
+        k,
+        least,
     )
 }
 
@@ -149,9 +115,11 @@ pub fn arrive(
     index: &mut [u32],
     r: Run,
     time: u32,
+    least: &[u32],
 ) -> Many
     requires { ⌜ Laid (netCircuit (now net)) (now net) × Open (atPlace (now net) lettersPlace) (now letter) (now low) (now high) (now index) (r .used) ⌝ }
     requires { ⌜ runSound (netCircuit (now net)) (tableOf (columns (now letter) (now low) (now high)) (r .used)) (runOf (netCircuit (now net)) r) ≡ true ⌝ }
+    requires { ⌜ Leasts (atPlace (now net) lettersPlace) (tableOf (columns (now letter) (now low) (now high)) (r .used)) (r .used) (now least) ⌝ }
     ensures { λ x. ⌜ OutcomeAll (tableOf (columns (now (letter .entry)) (now (low .entry)) (now (high .entry))) (r .used)) (storeAll (atPlace (now (net .entry)) lettersPlace) (map (λ (n : ℕ) (p : ℕ). valueAt (stepped (netCircuit (now (net .entry))) time p (stateOf (netCircuit (now (net .entry))) (tableOf (columns (now (letter .entry)) (now (low .entry)) (now (high .entry))) (r .used)) (runOf (netCircuit (now (net .entry))) r) p)) n) (nodeNumbers (netCircuit (now (net .entry))))) (tableOf (columns (now (letter .entry)) (now (low .entry)) (now (high .entry))) (r .used))) (now (letter .exit)) (now (low .exit)) (now (high .exit)) (now (index .exit)) (x .full) (x .used) (x .entries) ⌝ }
 {
     let count = net[net::NODES] as usize;
@@ -173,6 +141,7 @@ pub fn arrive(
             n,
             values[i],
             changes[i],
+            least,
         );
         if p.full {
             return Many {

@@ -2,7 +2,7 @@
 // Promise: what is stored is exactly `storeAll` of the values that the definitions of `rules` give at every pattern; full where it does not fit.
 // Internal to our crates: a call refuses first, and shows what is required here.
 pub mod arrive;
-pub mod due;
+mod flip;
 pub mod source;
 
 // An entry for each node record, 0 past them, unless there was no room.

@@ -6,7 +6,7 @@ use native.Mathlib.Omega.{arith}
 use Rattle.rules.specs.Run.{leastBelow}
 use Rattle.net.specs.Net.{timePlace, at}
 use Rattle.record.specs.Numbers.{afterNow}
-use Rattle.record.proofs.Least.{least-none, least-loop, least-ends}
+use Rattle.record.proofs.LeastBelow.{least-none, least-loop, least-ends}
 use Rattle.record.proofs.places.scheduled_after.Statement.{statement}
 use Rattle.record.proofs.places.scheduled_after.Tie as tie
 

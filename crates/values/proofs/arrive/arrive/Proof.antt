@@ -8,16 +8,17 @@ use Rattle.diagram.specs.Call.{tableOf}
 use Rattle.table.specs.Holds.{columns}
 use Rattle.net.specs.Net.{lettersPlace, at, netCircuit}
 use Rattle.net.proofs.Laying.{nodes-length}
+use Rattle.record.proofs.Leasts.{leasts-less, leasts-same}
 use Rattle.values.proofs.Arriving.{arrivals, values-used, changes-used, arrive-next, arrive-done}
 use Rattle.values.proofs.Series.{Storing, storing-first, storing-open, storing-number, storing-longer, storing-next, storing-stop, storing-done}
 use Rattle.values.proofs.arrive.arrive.Statement.{statement}
 use Rattle.values.proofs.arrive.arrive.Tie as tie
 
 abbrev Inv-loop : tie.InvT-loop
-Inv-loop net letter₀ low₀ high₀ index₀ time count values changes out₀ now₀ i₀ letter low high index out now i = Storing (length (netCircuit net .nodes)) (at net lettersPlace) (arrivals (netCircuit net) (tableOf (columns letter₀ low₀ high₀) now₀) now₀ values changes time) letter₀ low₀ high₀ index₀ now₀ letter low high index now out i
+Inv-loop net letter₀ low₀ high₀ index₀ time least count values changes out₀ now₀ i₀ letter low high index out now i = Storing (length (netCircuit net .nodes)) (at net lettersPlace) (arrivals (netCircuit net) (tableOf (columns letter₀ low₀ high₀) now₀) now₀ values changes time) letter₀ low₀ high₀ index₀ now₀ letter low high index now out i
 
 abbrev μ-loop : tie.MeasureT-loop
-μ-loop net letter₀ low₀ high₀ index₀ time count values changes out₀ now₀ i₀ letter low high index out now i = count - i
+μ-loop net letter₀ low₀ high₀ index₀ time least count values changes out₀ now₀ i₀ letter low high index out now i = count - i
 
 -- the arrays of a value are full
 full : (c : tie.Start Inv-loop μ-loop) → (length (c .args .r .values) ≡ 24) × (length (c .args .r .changes) ≡ 24)
@@ -31,35 +32,40 @@ cast-count c = search needs
 
 loop-holds : tie.Need-loop-holds Inv-loop μ-loop
 loop-holds c =
-    let s = c .before .before .before .before .before .before .before .before in
+    let s = c .before .before .before .before .before .before .before .before .before in
     let net = s .args .net .now in
     storing-first (length (netCircuit net .nodes)) (arrivals (netCircuit net) (tableOf (columns (s .args .letter .now) (s .args .low .now) (s .args .high .now)) (s .args .r .used)) (s .args .r .used) (s .args .r .values) (s .args .r .changes) (s .args .time)) (s .pre .0 .1)
 
 cast-n : tie.Need-cast-n Inv-loop μ-loop
-cast-n c = omega (arith, c .before .before .before .before .before .before .before .before .before .before .pre .0 .0 .within .nodes, c .loop-test .taken)
+cast-n c = omega (arith, c .before .before .before .before .before .before .before .before .before .before .before .pre .0 .0 .within .nodes, c .loop-test .taken)
 
 add-n : tie.Need-add-n Inv-loop μ-loop
-add-n c = omega (arith, c .before .before .before .before .before .before .before .before .before .before .pre .0 .0 .within .nodes, c .loop-test .taken)
+add-n c = omega (arith, c .before .before .before .before .before .before .before .before .before .before .before .pre .0 .0 .within .nodes, c .loop-test .taken)
 
 mul-value-after : tie.Need-mul-value-after Inv-loop μ-loop
 mul-value-after c = search needs
 
 array-read-value-after : tie.Need-array-read-value-after Inv-loop μ-loop
-array-read-value-after c = omega (arith, c .before .before .before .before .before .before .before .before .before .before .before .before .before .before .pre .0 .0 .within .nodes, c .before .before .before .before .loop-test .taken)
+array-read-value-after c = omega (arith, c .before .before .before .before .before .before .before .before .before .before .before .before .before .before .before .pre .0 .0 .within .nodes, c .before .before .before .before .loop-test .taken)
 
 mul-value-after-2 : tie.Need-mul-value-after-2 Inv-loop μ-loop
 mul-value-after-2 c = search needs
 
 array-read-value-after-2 : tie.Need-array-read-value-after-2 Inv-loop μ-loop
-array-read-value-after-2 c = omega (arith, c .before .before .before .before .before .before .before .before .before .before .before .before .before .before .pre .0 .0 .within .nodes, c .before .before .before .before .loop-test .taken)
+array-read-value-after-2 c = omega (arith, c .before .before .before .before .before .before .before .before .before .before .before .before .before .before .before .pre .0 .0 .within .nodes, c .before .before .before .before .loop-test .taken)
 
 value-after-requires : tie.Need-value-after-requires Inv-loop μ-loop
 value-after-requires c κs =
-    let s = c .before .before .before .before .before .before .before .before .before .before .before .before .before .before in
+    let s = c .before .before .before .before .before .before .before .before .before .before .before .before .before .before .before in
     let l = c .before .before .before .before .before .loop in
     let net = s .args .net .now in
     let small = c .before .before .before .before .loop-test .taken in
-    ((s .pre .0 .0, storing-open (l .inv)), (omega (arith, small), omega (arith, values-used net (s .args .letter .now) (s .args .low .now) (s .args .high .now) (s .args .r) (full s .0) (full s .1) (s .pre .0 .0 .within .nodes) (s .pre .0 .1 .legible) (s .pre .1) (l .i) small, storing-longer (l .inv)), omega (arith, changes-used net (s .args .letter .now) (s .args .low .now) (s .args .high .now) (s .args .r) (full s .0) (full s .1) (s .pre .0 .0 .within .nodes) (s .pre .0 .1 .legible) (s .pre .1) (l .i) small, storing-longer (l .inv))))
+    let value = values-used net (s .args .letter .now) (s .args .low .now) (s .args .high .now) (s .args .r) (full s .0) (full s .1) (s .pre .0 .0 .within .nodes) (s .pre .0 .1 .legible) (s .pre .1 .0) (l .i) small in
+    let change = changes-used net (s .args .letter .now) (s .args .low .now) (s .args .high .now) (s .args .r) (full s .0) (full s .1) (s .pre .0 .0 .within .nodes) (s .pre .0 .1 .legible) (s .pre .1 .0) (l .i) small in
+    let more = storing-longer (l .inv) in (
+      (s .pre .0 .0, storing-open (l .inv)),
+      ((omega (arith, small), omega arith, omega arith), leasts-less (leasts-same (s .pre .1 .1) (storing-number (l .inv))) (omega arith)),
+    )
 
 same-length : tie.Need-same-length Inv-loop μ-loop
 same-length c = omega (arith, c .before .before .before .before .before .before .before .before .before .before .before .before .before .before .before .loop .inv .letter-long, c .before .before .before .before .before .before .before .before .before .value-after .kept .1 .0)
@@ -75,30 +81,30 @@ same-length-4 c = omega (arith, c .before .before .before .before .before .befor
 
 returns : tie.Need-returns Inv-loop μ-loop
 returns c =
-    let s = c .before .before .before .before .before .before .before .before .before .before .before .before .before .before .before .before .before .before .before .before .before .before .before .before in
+    let s = c .before .before .before .before .before .before .before .before .before .before .before .before .before .before .before .before .before .before .before .before .before .before .before .before .before in
     let l = c .before .before .before .before .before .before .before .before .before .before .before .before .before .before .before .loop in
     let net = s .args .net .now in
     arrive-done (netCircuit net) (tableOf (columns (s .args .letter .now) (s .args .low .now) (s .args .high .now)) (s .args .r .used)) (s .args .r) (at net lettersPlace) (s .args .time)
-    (storing-stop (l .inv) _ (c .before .before .before .before .before .before .before .before .before .value-after .ensures) (λ p h. arrive-next net (s .args .letter .now) (s .args .low .now) (s .args .high .now) (s .args .r) (full s .0) (full s .1) (s .pre .0 .0 .within .nodes) (s .pre .0 .1 .legible) (s .pre .1) (s .args .time) (l .i) p _ (c .before .before .before .before .before .before .before .before .before .before .before .before .before .before .loop-test .taken) (λ e g. storing-number (l .inv) e p g)) (c .if1 .taken) (omega (arith, nodes-length net, c .before .before .before .before .before .before .before .before .before .before .before .before .before .before .loop-test .taken)) _ _)
+    (storing-stop (l .inv) _ (c .before .before .before .before .before .before .before .before .before .value-after .ensures) (λ p h. arrive-next net (s .args .letter .now) (s .args .low .now) (s .args .high .now) (s .args .r) (full s .0) (full s .1) (s .pre .0 .0 .within .nodes) (s .pre .0 .1 .legible) (s .pre .1 .0) (s .args .time) (l .i) p _ (c .before .before .before .before .before .before .before .before .before .before .before .before .before .before .loop-test .taken) (λ e g. storing-number (l .inv) e p g)) (c .if1 .taken) (omega (arith, nodes-length net, c .before .before .before .before .before .before .before .before .before .before .before .before .before .before .loop-test .taken)) _ _)
 
 mul-out : tie.Need-mul-out Inv-loop μ-loop
-mul-out c = search needs
+mul-out c = omega (arith, c .before .before .before .before .before .before .before .before .before .before .before .before .before .before .before .before .before .before .before .before .before .before .before .before .before .pre .0 .0 .within .nodes, c .before .before .before .before .before .before .before .before .before .before .before .before .before .before .loop-test .taken)
 
 array-write-out : tie.Need-array-write-out Inv-loop μ-loop
-array-write-out c = omega (arith, c .before .before .before .before .before .before .before .before .before .before .before .before .before .before .before .before .before .before .before .before .before .before .before .before .pre .0 .0 .within .nodes, c .before .before .before .before .before .before .before .before .before .before .before .before .before .before .loop-test .taken)
+array-write-out c = omega (arith, c .before .before .before .before .before .before .before .before .before .before .before .before .before .before .before .before .before .before .before .before .before .before .before .before .before .pre .0 .0 .within .nodes, c .before .before .before .before .before .before .before .before .before .before .before .before .before .before .loop-test .taken)
 
 add-i : tie.Need-add-i Inv-loop μ-loop
-add-i c = omega (arith, c .before .before .before .before .before .before .before .before .before .before .before .before .before .before .before .before .before .before .before .before .before .before .before .before .pre .0 .0 .within .nodes, c .before .before .before .before .before .before .before .before .before .before .before .before .before .before .loop-test .taken)
+add-i c = omega (arith, c .before .before .before .before .before .before .before .before .before .before .before .before .before .before .before .before .before .before .before .before .before .before .before .before .before .pre .0 .0 .within .nodes, c .before .before .before .before .before .before .before .before .before .before .before .before .before .before .loop-test .taken)
 
 loop-less : tie.Need-loop-less Inv-loop μ-loop
 loop-less c = omega (arith, c .before .before .before .before .before .before .before .before .before .before .before .before .before .before .loop-test .taken)
 
 loop-again : tie.Need-loop-again Inv-loop μ-loop
 loop-again c =
-    let s = c .before .before .before .before .before .before .before .before .before .before .before .before .before .before .before .before .before .before .before .before .before .before .before .before in
+    let s = c .before .before .before .before .before .before .before .before .before .before .before .before .before .before .before .before .before .before .before .before .before .before .before .before .before in
     let l = c .before .before .before .before .before .before .before .before .before .before .before .before .before .before .before .loop in
     let net = s .args .net .now in
-    storing-next (l .inv) _ (c .before .before .before .before .before .before .before .before .before .value-after .ensures) (λ p h. arrive-next net (s .args .letter .now) (s .args .low .now) (s .args .high .now) (s .args .r) (full s .0) (full s .1) (s .pre .0 .0 .within .nodes) (s .pre .0 .1 .legible) (s .pre .1) (s .args .time) (l .i) p _ (c .before .before .before .before .before .before .before .before .before .before .before .before .before .before .loop-test .taken) (λ e g. storing-number (l .inv) e p g)) (c .if1 .left) (omega (arith, nodes-length net, c .before .before .before .before .before .before .before .before .before .before .before .before .before .before .loop-test .taken)) (omega (arith, nodes-length net, s .pre .0 .0 .within .nodes)) (c .before .before .before .before .before .before .before .before .before .value-after .kept .1 .0) (c .before .before .before .before .before .before .before .before .before .value-after .kept .1 .1 .0) (c .before .before .before .before .before .before .before .before .before .value-after .kept .1 .1 .1 .0) (c .before .before .before .before .before .before .before .before .before .value-after .kept .1 .1 .1 .1 .0)
+    storing-next (l .inv) _ (c .before .before .before .before .before .before .before .before .before .value-after .ensures) (λ p h. arrive-next net (s .args .letter .now) (s .args .low .now) (s .args .high .now) (s .args .r) (full s .0) (full s .1) (s .pre .0 .0 .within .nodes) (s .pre .0 .1 .legible) (s .pre .1 .0) (s .args .time) (l .i) p _ (c .before .before .before .before .before .before .before .before .before .before .before .before .before .before .loop-test .taken) (λ e g. storing-number (l .inv) e p g)) (c .if1 .left) (omega (arith, nodes-length net, c .before .before .before .before .before .before .before .before .before .before .before .before .before .before .loop-test .taken)) (omega (arith, nodes-length net, s .pre .0 .0 .within .nodes)) (c .before .before .before .before .before .before .before .before .before .value-after .kept .1 .0) (c .before .before .before .before .before .before .before .before .before .value-after .kept .1 .1 .0) (c .before .before .before .before .before .before .before .before .before .value-after .kept .1 .1 .1 .0) (c .before .before .before .before .before .before .before .before .before .value-after .kept .1 .1 .1 .1 .0)
 
 same-length-5 : tie.Need-same-length-5 Inv-loop μ-loop
 same-length-5 c = omega (arith, c .before .loop .inv .letter-long)
@@ -114,7 +120,7 @@ same-length-8 c = omega (arith, c .before .loop .inv .index-long)
 
 returns-2 : tie.Need-returns-2 Inv-loop μ-loop
 returns-2 c =
-    let s = c .before .before .before .before .before .before .before .before .before .before in
+    let s = c .before .before .before .before .before .before .before .before .before .before .before in
     let l = c .before .loop in
     let net = s .args .net .now in
     arrive-done (netCircuit net) (tableOf (columns (s .args .letter .now) (s .args .low .now) (s .args .high .now)) (s .args .r .used)) (s .args .r) (at net lettersPlace) (s .args .time)

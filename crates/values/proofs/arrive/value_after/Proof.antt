@@ -2,15 +2,15 @@
 use borrow.Author.Needs.{needs}
 use mathlib.Core.Path.{sym, _∙_}
 use Rattle.net.specs.Net.{netCircuit}
-use Rattle.values.proofs.Arriving.{value-input, value-inner}
+use Rattle.values.proofs.Arriving.{whole-operand, value-input, value-inner}
 use Rattle.values.proofs.arrive.value_after.Statement.{statement}
 use Rattle.values.proofs.arrive.value_after.Tie as tie
 
 is-input-requires : tie.Need-is-input-requires
-is-input-requires c κs = let s = c .before .before .before .before .before in (s .pre .0 .0 .long, s .pre .0 .0 .within, s .pre .1 .0)
+is-input-requires c κs = let s = c .before .before .before .before .before .before in (s .pre .0 .0 .long, s .pre .0 .0 .within, s .pre .1 .0 .0)
 
 input-value-requires : tie.Need-input-value-requires
-input-value-requires c κs = let s = c .before .before .before .before .before .before .before .before .before .before .before in (s .pre .0 .0, s .pre .0 .1, s .pre .1 .1)
+input-value-requires c κs = let s = c .before .before .before .before .before .before .before .before .before .before .before .before in (s .pre .0 .0, s .pre .0 .1, s .pre .1 .0 .1)
 
 same-length : tie.Need-same-length
 same-length c = search needs
@@ -26,14 +26,16 @@ same-length-4 c = search needs
 
 returns : tie.Need-returns
 returns c =
-    let s = c .before .before .before .before .before .before .before .before .before .before .before .before .before .before .before .before .before .before .before .before in
+    let s = c .before .before .before .before .before .before .before .before .before .before .before .before .before .before .before .before .before .before .before .before .before in
     value-input (s .pre .0 .1) (netCircuit (s .args .net .now)) (s .args .time) (s .args .n) (s .args .value) (s .args .change) (sym (c .before .before .before .before .before .before .before .before .before .before .before .before .before .before .is-input .ensures) ∙ c .before .before .before .before .before .before .before .before .before .before .before .before .before .if1 .taken) (c .before .before .before .before .before .before .before .before .input-value .ensures)
 
-shared-slice-read-inner-value : tie.Need-shared-slice-read-inner-value
-shared-slice-read-inner-value c = search needs
+shared-slice-read-k : tie.Need-shared-slice-read-k
+shared-slice-read-k c = search needs
 
-inner-value-requires : tie.Need-inner-value-requires
-inner-value-requires c κs = let s = c .before .before .before .before .before .before .before .before .before .before .before .before in (s .pre .0 .1, s .pre .1 .1, s .pre .1 .2)
+flip-requires : tie.Need-flip-requires
+flip-requires c κs =
+    let s = c .before .before .before .before .before .before .before .before .before .before .before .before .before in
+    (s .pre .0 .1, ((whole-operand (s .pre .0 .1) (s .args .value) (s .pre .1 .0 .1), whole-operand (s .pre .0 .1) (s .args .change) (s .pre .1 .0 .2)), s .pre .1 .1))
 
 same-length-5 : tie.Need-same-length-5
 same-length-5 c = search needs
@@ -49,8 +51,8 @@ same-length-8 c = search needs
 
 returns-2 : tie.Need-returns-2
 returns-2 c =
-    let s = c .before .before .before .before .before .before .before .before .before .before .before .before .before .before .before .before .before .before .before .before .before in
-    value-inner (s .pre .0 .1) (netCircuit (s .args .net .now)) (s .args .time) (s .args .n) (s .args .value) (s .args .change) (sym (c .before .before .before .before .before .before .before .before .before .before .before .before .before .before .before .is-input .ensures) ∙ c .before .before .before .before .before .before .before .before .before .before .before .before .before .before .if1 .left) (c .before .before .before .before .before .before .before .before .inner-value .ensures)
+    let s = c .before .before .before .before .before .before .before .before .before .before .before .before .before .before .before .before .before .before .before .before .before .before in
+    value-inner (s .pre .0 .1) (netCircuit (s .args .net .now)) (s .args .time) (s .args .n) (s .args .value) (s .args .change) (sym (c .before .before .before .before .before .before .before .before .before .before .before .before .before .before .before .is-input .ensures) ∙ c .before .before .before .before .before .before .before .before .before .before .before .before .before .before .if1 .left) (c .before .before .before .before .before .before .before .before .flip .ensures)
 
 pub value-after-spec : {M : Type 1} → statement M
 value-after-spec =
@@ -63,8 +65,8 @@ value-after-spec =
     same-length-3
     same-length-4
     returns
-    shared-slice-read-inner-value
-    inner-value-requires
+    shared-slice-read-k
+    flip-requires
     same-length-5
     same-length-6
     same-length-7

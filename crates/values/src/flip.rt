@@ -1,0 +1,96 @@
+// A value flipped where its next change is T: the recursion of `functions::apply`, which stops where no next change is as early.
+use functions::numbers;
+use functions::numbers::TERMINAL;
+use functions::step::first_letter;
+use functions::step::join;
+use functions::step::parts;
+use table::Put;
+ghost use Prim.Native.Nat.{suc, _<_};
+ghost use lib.ListN.{length, getD};
+ghost use Rattle.diagram.specs.declared.Operation.the-variants.{Flip};
+ghost use Rattle.diagram.specs.Table.{terminal};
+ghost use Rattle.diagram.specs.Store.{add as addOf, store};
+ghost use Rattle.diagram.specs.Operation.{flip as flipOf, applied};
+ghost use Rattle.diagram.specs.Call.{tableOf};
+ghost use Rattle.table.specs.Holds.{columns, Holds, Outcome};
+ghost use Rattle.functions.specs.Open.{Open, Operand};
+ghost use Rattle.record.specs.Leasts.{Leasts};
+
+// Two terminals: the terminal of the flipped number.
+fn leaf(
+    letter: &mut [u32],
+    low: &mut [u32],
+    high: &mut [u32],
+    index: &mut [u32],
+    used: u32,
+    time: u32,
+    a: u32,
+    b: u32,
+) -> Put
+    requires { ⌜ (a < length (now low)) × (b < length (now low)) ⌝ }
+    requires { ⌜ Holds (now letter) (now low) (now high) (now index) (tableOf (columns (now letter) (now low) (now high)) used) used ⌝ }
+    ensures { λ r. ⌜ Outcome (tableOf (columns (now (letter .entry)) (now (low .entry)) (now (high .entry))) used) (addOf (terminal (flipOf time (getD (now (low .entry)) a 0) (getD (now (low .entry)) b 0))) (tableOf (columns (now (letter .entry)) (now (low .entry)) (now (high .entry))) used)) (now (letter .exit)) (now (low .exit)) (now (high .exit)) (now (index .exit)) r ⌝ }
+{
+    let i = a as usize;
+    let j = b as usize;
+    let v = numbers::flip(time, low[i], low[j]);
+    table::add(letter, low, high, index, used, TERMINAL, v, 0)
+}
+
+// Entry `a`, a value, flipped where entry `b`, its next change, is `time`. Their letters are among the last `left` of the k.
+pub fn flip(
+    letter: &mut [u32],
+    low: &mut [u32],
+    high: &mut [u32],
+    index: &mut [u32],
+    used: u32,
+    k: u32,
+    time: u32,
+    a: u32,
+    b: u32,
+    left: u32,
+    least: &[u32],
+) -> Put
+    requires { ⌜ Open k (now letter) (now low) (now high) (now index) used ⌝ }
+    requires { ⌜ Operand k (tableOf (columns (now letter) (now low) (now high)) used) used left a × Operand k (tableOf (columns (now letter) (now low) (now high)) used) used left b ⌝ }
+    requires { ⌜ Leasts k (tableOf (columns (now letter) (now low) (now high)) used) (suc b) (now least) ⌝ }
+    ensures { λ r. ⌜ Outcome (tableOf (columns (now (letter .entry)) (now (low .entry)) (now (high .entry))) used) (store k 0 (applied k (tableOf (columns (now (letter .entry)) (now (low .entry)) (now (high .entry))) used) (Flip time) a b) (tableOf (columns (now (letter .entry)) (now (low .entry)) (now (high .entry))) used)) (now (letter .exit)) (now (low .exit)) (now (high .exit)) (now (index .exit)) r ⌝ }
+{
+    if time < least[b as usize] {
+        return Put {
+            full: false,
+            entry: a,
+            used,
+        };
+    }
+    let m = first_letter(letter, a, b);
+    if m == TERMINAL {
+        return leaf(letter, low, high, index, used, time, a, b);
+    }
+    let pa = parts(letter, low, high, m, a);
+    let pb = parts(letter, low, high, m, b);
+    let a0 = pa.low;
+    let b0 = pb.low;
+    let less = left - 1;
+    let p = flip(letter, low, high, index, used, k, time, a0, b0, less, least);
+    if p.full {
+        return p;
+    }
+    let q = flip(
+        letter,
+        low,
+        high,
+        index,
+        p.used,
+        k,
+        time,
+        pa.high,
+        pb.high,
+        less,
+        least,
+    );
+    if q.full {
+        return q;
+    }
+    join(letter, low, high, index, q.used, m, p.entry, q.entry)
+}
