@@ -1,7 +1,9 @@
 -- One step of the descent: the roots that matter, and what is stored by them.
 use mathlib.Core.Path.{_≡_, sym, _∙_}
 use mathlib.Core.List.{List}
+use mathlib.Core.Bool.{true}
 use Prim.Native.Nat.{ℕ, _-_, _≤_}
+use lib.ListN.{getD}
 use Rattle.diagram.specs.Table.{Table, terminalLetter, terminal}
 use Rattle.diagram.specs.Store.{add, store}
 use Rattle.diagram.specs.Call.{tableOf}
@@ -10,11 +12,11 @@ use Rattle.table.specs.declared.Put.{Put}
 use Rattle.table.specs.Holds.{columns, Outcome}
 use Rattle.functions.specs.Open.{Open}
 use Rattle.functions.proofs.Carry.{legible-sound}
-use Rattle.functions.proofs.Halving.{Halves}
+use Rattle.functions.proofs.Halving.{Halves, low-full}
 use Rattle.descent.specs.Settle.{settledAt, settledBy}
 use Rattle.descent.specs.Piece.{Narrowed}
 use Rattle.descent.specs.Descend.{Least, HalfOf, lowOf, LeafOf, Rooted}
-use Rattle.descent.proofs.Going.{narrow-ready, narrow-store, ready-leaf, leaf-store, going-left, going-halves, low-ready, high-ready}
+use Rattle.descent.proofs.Going.{half-of, zero-letter, narrow-ready, narrow-store, ready-leaf, leaf-store, going-left, going-halves, low-ready, high-ready}
 
 module _ {net : List ℕ} {n k : ℕ} {l w h : List ℕ} {used : ℕ} {roots : List ℕ} {left : ℕ} (r : Rooted net n k l w h used roots left)
     {kept : List ℕ} (s : Narrowed (netCircuit net) n roots kept) {m : ℕ} (least : Least l kept m) where
@@ -31,18 +33,28 @@ module _ {net : List ℕ} {n k : ℕ} {l w h : List ℕ} {used : ℕ} {roots : L
     pub letter-left : 1 ≤ left
     letter-left = going-left (narrow-ready r s) least node
 
-    module _ {a b : List ℕ} (low : HalfOf l w kept m a) (high : HalfOf l h kept m b) where
+    -- entry 0 has another
+    pub letter-other : getD l 0 0 ≡ m → ⊥
+    letter-other q = node (sym q ∙ zero-letter (r .working))
+
+    module _ {a : List ℕ} (low : HalfOf l w kept m a) where
       pub lows-ready : Rooted net n k l w h used a (left - 1)
       lows-ready = low-ready (narrow-ready r s) least node low
 
-      pub highs-ready : Rooted net n k l w h used b (left - 1)
-      highs-ready = high-ready (narrow-ready r s) least node high
-
       -- the halves make the function in an open table
-      pub halves-stored : (time : ℕ) {l1 w1 h1 ix1 : List ℕ} {used1 : ℕ} → Open k l1 w1 h1 ix1 used1
+      pub halves-stored : {b : List ℕ} → HalfOf l h kept m b → (time : ℕ) {l1 w1 h1 ix1 : List ℕ} {used1 : ℕ} → Open k l1 w1 h1 ix1 used1
           → Halves k (tableOf (columns l1 w1 h1) used1) m (settledBy (netCircuit net) time n k (tableOf (columns l w h) used) roots) (settledBy (netCircuit net) time n k (tableOf (columns l w h) used) a)
           (λ _. settledBy (netCircuit net) time n k (tableOf (columns l w h) used) b)
-      halves-stored time {l1} {w1} {h1} {ix1} {used1} o =
+      halves-stored high time {l1} {w1} {h1} {ix1} {used1} o =
           let u : Table = tableOf (columns l1 w1 h1) used1 in
           let g = going-halves (narrow-ready r s) least node low high time u (legible-sound (o .legible)) in
           record { halved = sym (narrow-store r s time u) ∙ g .halved; stable = g .stable }
+
+      -- there is no room for the low one
+      pub low-stopped : (time : ℕ) {l1 w1 h1 ix1 : List ℕ} {used1 : ℕ} → Open k l1 w1 h1 ix1 used1 → {l2 w2 h2 ix2 : List ℕ} {p : Put}
+          → Outcome (tableOf (columns l1 w1 h1) used1) (store k 0 (settledBy (netCircuit net) time n k (tableOf (columns l w h) used) a) (tableOf (columns l1 w1 h1) used1)) l2 w2 h2 ix2 p → p .full ≡ true
+          → Outcome (tableOf (columns l1 w1 h1) used1) (store k 0 (settledBy (netCircuit net) time n k (tableOf (columns l w h) used) roots) (tableOf (columns l1 w1 h1) used1)) l2 w2 h2 ix2 p
+      low-stopped time o done full = low-full o (halves-stored (half-of l h kept m (s .long)) time o) done full
+
+    pub highs-ready : {b : List ℕ} → HalfOf l h kept m b → Rooted net n k l w h used b (left - 1)
+    highs-ready high = high-ready (narrow-ready r s) least node high

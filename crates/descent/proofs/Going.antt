@@ -48,6 +48,24 @@ leaf-settleable {net} {low} {roots} {out} {n} l h =
 pub leaf-number : {net low roots out : List ℕ} {n : ℕ} (time v : ℕ) → LeafOf net n low roots → NumbersOf low roots out → v ≡ settledAt (netCircuit net) time n out → v ≡ settledAt (netCircuit net) time n (lowOf low roots)
 leaf-number {net} {low} {roots} {out} {n} time v l h e = e ∙ ap (settledAt (netCircuit net) time n) (numbers-low (l .entries .long) h)
 
+-- the parts of any roots
+pub half-of : (letter side roots : List ℕ) (m : ℕ) → length roots ≡ 92 → HalfOf letter side roots m (map (λ (e : ℕ). cond (eqb (getD letter e 0) m) (getD side e 0) e) roots)
+half-of letter side roots m long = record {
+  long = length-map roots (λ (e : ℕ). cond (eqb (getD letter e 0) m) (getD side e 0) e) ∙ long;
+  is = λ j h. map-at (λ (e : ℕ). cond (eqb (getD letter e 0) m) (getD side e 0) e) roots 0 0 j (omega arith);
+}
+
+-- entry 0 is the terminal 0
+module _ {k : ℕ} {l w h : List ℕ} {used : ℕ} (o : Legible k l w h used) where
+  zero-within : 0 < used
+  zero-within = omega (arith, legible-sound o .three, legible-long o)
+
+  pub zero-letter : getD l 0 0 ≡ terminalLetter
+  zero-letter = sym (letter-at o 0 zero-within) ∙ ap (λ (x : Entry). x .letter) (legible-sound o .zeroth)
+
+  pub zero-low : getD w 0 0 ≡ 0
+  zero-low = sym (low-at o 0 zero-within) ∙ ap (λ (x : Entry). x .low) (legible-sound o .zeroth)
+
 -- roots, one after the other, from what holds at each place
 roots-of : (t : Table) (m : ℕ) (es : List ℕ) → ((j : ℕ) → j < length es → (getD es j 0 < length t) × (m ≤ entryAt t (getD es j 0) .letter)) → shannon.Roots t m es
 roots-of t m [] h = shannon.none

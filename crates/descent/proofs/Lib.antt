@@ -2,9 +2,14 @@ pub mod Channels
 pub mod Settled
 pub mod Calm
 pub mod Fill
+pub mod Listed
 pub mod Search
 pub mod Matters
 pub mod Narrow
 pub mod Leaf
 pub mod Going
+pub mod Pending
 pub mod Descent
+pub mod Slots
+pub mod Remember
+pub mod Recall

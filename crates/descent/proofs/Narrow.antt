@@ -1,6 +1,6 @@
 -- Roots that do not matter may be left out: by locality, with the piece for the set.
 use mathlib.Core.Path.{_≡_, refl, sym, _∙_, ap, subst}
-use mathlib.Core.Logic.{_⊎_, inl, inr, ⊎-elim}
+use mathlib.Core.Logic.{inl, inr, ⊎-elim}
 use mathlib.Core.List.{List, [], _∷_, List·Memᴰ, List·Memᴰ·head, List·Memᴰ·tail}
 use mathlib.Core.Bool.{Bool, true, false, not, _||_, cond, or-true}
 use mathlib.Core.Option.{none}
@@ -30,7 +30,7 @@ use Rattle.walk.specs.Leaf.{isKept, leafState, leafChannels, netChannel}
 use Rattle.net.specs.Laid.{TransistorWithin}
 use Rattle.walk.specs.Ready.{Net}
 use Rattle.walk.proofs.Cell.{net-nodes, net-transistors, net-transistor, inner-least, net-capacitance}
-use Rattle.descent.specs.Settle.{leafAt, isTouched, pendingAfter, pendingOf, settledAt, Roots, Calm}
+use Rattle.descent.specs.Settle.{leafAt, isTouched, pendingOf, settledAt, Roots, Calm}
 use Rattle.descent.specs.Piece.{isIn, isNear, isOff, Beside, Piece, isTouching, matters, Selected, Narrowed}
 use Rattle.descent.specs.Descend.{Inner}
 use Rattle.descent.proofs.Matters.{matters-rail, matters-node, matters-arm, matters-late}
@@ -346,32 +346,3 @@ module _ {net roots marks : List ℕ} {n : ℕ} (inner : Inner net n) (piece : P
     touch = λ letters w r p e. ap (λ (v : ℕ). eqb v 1) (sym (same-touched sel letters w r p)) ∙ e;
     calm = λ letters w r p e q. narrow-calm sel letters w r p q;
   }
-
--- where no pattern is touched the pending change is
-pub narrowed-pending : (c : Circuit) (n : ℕ) (roots out : List ℕ) → getD roots 90 0 ≡ 0 → length out ≡ 92 → ((j : ℕ) → j < 91 → getD out j 0 ≡ 0) → getD out 91 0 ≡ getD roots 91 0 → Narrowed c n roots out
-narrowed-pending c n roots out still long zeros last = record {
-  long = long;
-  either = λ j h.
-      ⊎-elim
-      (λ (g : j < 91). inr (zeros j g))
-      (λ (g : 91 ≤ j). let q : j ≡ 91 = omega arith in inl (rw q last))
-      (lt-or-ge j 91);
-  settles = λ letters w r time p. by letters w r time p;
-  touch = λ letters w r p e. true-false (isTouched (leafAt letters w out p)) e (untouched letters w r p out long (zeros 90 (omega arith)));
-  calm = λ letters w r p e. true-false (isTouched (leafAt letters w out p)) e (untouched letters w r p out long (zeros 90 (omega arith)));
-}
-  where
-    untouched : (letters : ℕ) (w : Table) → Roots letters w roots → (p : ℕ) (xs : List ℕ) → length xs ≡ 92 → getD xs 90 0 ≡ 0 → isTouched (leafAt letters w xs p) ≡ false
-    untouched letters w r p xs l z =
-        ap (λ (v : ℕ). eqb v 1)
-        (number-root letters w p xs l 90 (omega arith) ∙ ap (λ (e : ℕ). numberAt letters w e p) z ∙ number-zero letters w p (r .few) (sound-record letters w (r .sound)))
-
-    pending : (letters : ℕ) (w : Table) → Roots letters w roots → (p : ℕ) → getD (leafAt letters w out p) 91 0 ≡ getD (leafAt letters w roots p) 91 0
-    pending letters w r p =
-        number-root letters w p out long 91 (omega arith) ∙ ap (λ (e : ℕ). numberAt letters w e p) last ∙ sym (number-root letters w p roots (r .long) 91 (omega arith))
-
-    by : (letters : ℕ) (w : Table) → Roots letters w roots → (time p : ℕ) → settledAt c time n (leafAt letters w out p) ≡ settledAt c time n (leafAt letters w roots p)
-    by letters w r time p =
-        unsettled c time n (leafAt letters w out p) (untouched letters w r p out long (zeros 90 (omega arith)))
-        ∙ ap (pendingAfter time) (pending letters w r p)
-        ∙ sym (unsettled c time n (leafAt letters w roots p) (untouched letters w r p roots (r .long) still))

@@ -39,6 +39,10 @@ pendingAfter time pending = cond (eqb pending time) never pending
 abbrev pub pendingOf : ℕ → List ℕ → ℕ
 pendingOf time numbers = pendingAfter time (getD numbers pendingPlace 0)
 
+-- the pending change by an entry of a table, over all patterns
+abbrev pub pendingBy : ℕ → ℕ → Table → ℕ → ℕ → ℕ
+pendingBy time letters w e p = pendingAfter time (numberAt letters w e p)
+
 -- the next change of node n by the numbers of one pattern
 unfoldable pub settledAt : Circuit → ℕ → ℕ → List ℕ → ℕ
 settledAt c time n numbers =

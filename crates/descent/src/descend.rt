@@ -1,13 +1,22 @@
 // The descent: the halves of all roots at their least letter, low first, then high, then the root entry.
+use crate::PENDING;
+use crate::TOUCHED;
 use crate::letters::TERMINAL;
-use crate::letters::halves;
-use crate::letters::leaf_numbers;
-use crate::letters::least_letter;
-use crate::mask::mask;
+use crate::live::all_places;
+use crate::live::halve;
+use crate::live::least_live;
+use crate::live::live_numbers;
+use crate::live::narrow;
+use crate::memo::bucket;
+use crate::memo::keep;
+use crate::memo::look;
+use crate::quiet::quiet;
 use crate::settle::settled;
 use functions::step::join;
 use table::Put;
 ghost use mathlib.Core.Path.{_≡_};
+ghost use mathlib.Core.Bool.{false};
+ghost use lib.ListN.{getD};
 ghost use Rattle.diagram.specs.Table.{terminal};
 ghost use Rattle.diagram.specs.Store.{add as addOf, store};
 ghost use Rattle.diagram.specs.Call.{tableOf};
@@ -15,6 +24,8 @@ ghost use Rattle.net.specs.Net.{netCircuit};
 ghost use Rattle.table.specs.Holds.{columns, Holds, Outcome};
 ghost use Rattle.functions.specs.Open.{Open};
 ghost use Rattle.descent.specs.Settle.{settledAt, settledBy};
+ghost use Rattle.descent.specs.Live.{Live};
+ghost use Rattle.descent.specs.Memo.{Memo};
 ghost use Rattle.descent.specs.Descend.{LeafOf, Rooted, lowOf};
 
 // All roots are terminals: the terminal of what their numbers settle.
@@ -22,6 +33,8 @@ fn leaf(
     net: &[u32],
     wlow: &[u32],
     roots: &[u32; 92],
+    live: &[u32; 92],
+    count: u32,
     time: u32,
     n: u32,
     letter: &mut [u32],
@@ -30,13 +43,147 @@ fn leaf(
     index: &mut [u32],
     used: u32,
 ) -> Put
-    requires { ⌜ LeafOf (now net) n (now wlow) (now roots) ⌝ }
+    requires { ⌜ LeafOf (now net) n (now wlow) (now roots) × (getD (now wlow) 0 0 ≡ 0) ⌝ }
+    requires { ⌜ Live (now roots) (now live) count ⌝ }
     requires { ⌜ Holds (now letter) (now low) (now high) (now index) (tableOf (columns (now letter) (now low) (now high)) used) used ⌝ }
     ensures { λ r. ⌜ Outcome (tableOf (columns (now (letter .entry)) (now (low .entry)) (now (high .entry))) used) (addOf (terminal (settledAt (netCircuit (now (net .entry))) time n (lowOf (now (wlow .entry)) (now (roots .entry))))) (tableOf (columns (now (letter .entry)) (now (low .entry)) (now (high .entry))) used)) (now (letter .exit)) (now (low .exit)) (now (high .exit)) (now (index .exit)) r ⌝ }
 {
-    let numbers = leaf_numbers(wlow, roots);
+    let numbers = live_numbers(wlow, roots, live, count);
     let v = settled(net, &numbers, time, n);
     table::add(letter, low, high, index, used, TERMINAL, v, 0)
+}
+
+// The next change of node n at every pattern, by the roots in the working columns, whose letters are among the last `left` of the k,
+// with the list of those that are not entry 0, and a memo of the entries of roots that were met before.
+fn down(
+    net: &[u32],
+    wletter: &[u32],
+    wlow: &[u32],
+    whigh: &[u32],
+    wused: u32,
+    letter: &mut [u32],
+    low: &mut [u32],
+    high: &mut [u32],
+    index: &mut [u32],
+    used: u32,
+    k: u32,
+    time: u32,
+    n: u32,
+    roots: &[u32; 92],
+    live: &[u32; 92],
+    count: u32,
+    left: u32,
+    memo: &mut [u32; 5952],
+) -> Put
+    requires { ⌜ Rooted (now net) n k (now wletter) (now wlow) (now whigh) wused (now roots) left ⌝ }
+    requires { ⌜ Live (now roots) (now live) count ⌝ }
+    requires { ⌜ Open k (now letter) (now low) (now high) (now index) used ⌝ }
+    requires { ⌜ Memo (settledBy (netCircuit (now net)) time n k (tableOf (columns (now wletter) (now wlow) (now whigh)) wused)) k (tableOf (columns (now letter) (now low) (now high)) used) (now memo) ⌝ }
+    ensures { λ r. ⌜ Outcome (tableOf (columns (now (letter .entry)) (now (low .entry)) (now (high .entry))) used) (store k 0 (settledBy (netCircuit (now (net .entry))) time n k (tableOf (columns (now (wletter .entry)) (now (wlow .entry)) (now (whigh .entry))) wused) (now (roots .entry))) (tableOf (columns (now (letter .entry)) (now (low .entry)) (now (high .entry))) used)) (now (letter .exit)) (now (low .exit)) (now (high .exit)) (now (index .exit)) r ⌝ }
+    ensures { λ r. ⌜ (r .full ≡ false → Memo (settledBy (netCircuit (now (net .entry))) time n k (tableOf (columns (now (wletter .entry)) (now (wlow .entry)) (now (whigh .entry))) wused)) k (tableOf (columns (now (letter .exit)) (now (low .exit)) (now (high .exit))) (r .used)) (now (memo .exit))) ⌝ }
+{
+    if roots[TOUCHED] == 0 {
+        let e = roots[PENDING];
+        return quiet(
+            wletter,
+            wlow,
+            whigh,
+            wused,
+            letter,
+            low,
+            high,
+            index,
+            used,
+            k,
+            time,
+            e,
+            left,
+        );
+    }
+    let mut kept: [u32; 92] = [0; 92];
+    let mut list: [u32; 92] = [0; 92];
+    let total = narrow(net, n, roots, live, count, &mut kept, &mut list);
+    let m = least_live(wletter, &kept, &list, total);
+    if m == TERMINAL {
+        return leaf(
+            net,
+            wlow,
+            &kept,
+            &list,
+            total,
+            time,
+            n,
+            letter,
+            low,
+            high,
+            index,
+            used,
+        );
+    }
+    let slot = bucket(&kept, &list, total);
+    let old = look(memo, slot, &kept);
+    if old != 0 {
+        return Put {
+            full: false,
+            entry: old - 1,
+            used,
+        };
+    }
+    let mut half: [u32; 92] = [0; 92];
+    halve(wletter, wlow, &kept, &list, total, m, &mut half);
+    let p = down(
+        net,
+        wletter,
+        wlow,
+        whigh,
+        wused,
+        letter,
+        low,
+        high,
+        index,
+        used,
+        k,
+        time,
+        n,
+        &half,
+        &list,
+        total,
+        left - 1,
+        memo,
+    );
+    if p.full {
+        return p;
+    }
+    halve(wletter, whigh, &kept, &list, total, m, &mut half);
+    let q = down(
+        net,
+        wletter,
+        wlow,
+        whigh,
+        wused,
+        letter,
+        low,
+        high,
+        index,
+        p.used,
+        k,
+        time,
+        n,
+        &half,
+        &list,
+        total,
+        left - 1,
+        memo,
+    );
+    if q.full {
+        return q;
+    }
+    let r = join(letter, low, high, index, q.used, m, p.entry, q.entry);
+    if r.full {
+        return r;
+    }
+    keep(memo, slot, &kept, r.entry);
+    r
 }
 
 // The next change of node n at every pattern, by the roots in the working columns, whose letters are among the last `left` of the k.
@@ -61,14 +208,9 @@ pub fn descend(
     requires { ⌜ Open k (now letter) (now low) (now high) (now index) used ⌝ }
     ensures { λ r. ⌜ Outcome (tableOf (columns (now (letter .entry)) (now (low .entry)) (now (high .entry))) used) (store k 0 (settledBy (netCircuit (now (net .entry))) time n k (tableOf (columns (now (wletter .entry)) (now (wlow .entry)) (now (whigh .entry))) wused) (now (roots .entry))) (tableOf (columns (now (letter .entry)) (now (low .entry)) (now (high .entry))) used)) (now (letter .exit)) (now (low .exit)) (now (high .exit)) (now (index .exit)) r ⌝ }
 {
-    let kept = mask(net, roots, n);
-    let m = least_letter(wletter, &kept);
-    if m == TERMINAL {
-        return leaf(net, wlow, &kept, time, n, letter, low, high, index, used);
-    }
-    let lows = halves(wletter, wlow, &kept, m);
-    let highs = halves(wletter, whigh, &kept, m);
-    let p = descend(
+    let live = all_places();
+    let mut memo: [u32; 5952] = [0; 5952];
+    down(
         net,
         wletter,
         wlow,
@@ -82,31 +224,10 @@ pub fn descend(
         k,
         time,
         n,
-        &lows,
-        left - 1,
-    );
-    if p.full {
-        return p;
-    }
-    let q = descend(
-        net,
-        wletter,
-        wlow,
-        whigh,
-        wused,
-        letter,
-        low,
-        high,
-        index,
-        p.used,
-        k,
-        time,
-        n,
-        &highs,
-        left - 1,
-    );
-    if q.full {
-        return q;
-    }
-    join(letter, low, high, index, q.used, m, p.entry, q.entry)
+        roots,
+        &live,
+        92,
+        left,
+        &mut memo,
+    )
 }

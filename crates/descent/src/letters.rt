@@ -9,15 +9,15 @@ ghost use Rattle.descent.specs.Descend.{Entries, Least, HalfOf, NumbersO
 // The letter of a terminal: past all.
 pub const TERMINAL: u32 = 4294967295;
 
-// The letter of entry e.
-fn entry_of(column: &[u32], e: u32) -> u32
+// A column's number of entry e.
+pub fn entry_of(column: &[u32], e: u32) -> u32
     requires { ⌜ e < length (now column) ⌝ }
     ensures { λ r. ⌜ r ≡ getD (now (column .entry)) e 0 ⌝ }
 {
     column[e as usize]
 }
 
-fn least(x: u32, y: u32) -> u32
+pub fn least(x: u32, y: u32) -> u32
     ensures { λ r. ⌜ r ≡ min x y ⌝ }
 {
     if x < y { x } else { y }
@@ -38,7 +38,7 @@ pub fn least_letter(letter: &[u32], roots: &[u32; 92]) -> u32
 }
 
 // The part of entry e at letter m, by a column of parts.
-fn part(letter: &[u32], side: &[u32], m: u32, e: u32) -> u32
+pub fn part(letter: &[u32], side: &[u32], m: u32, e: u32) -> u32
     requires { ⌜ (e < length (now letter)) × (length (now side) ≡ length (now letter)) ⌝ }
     ensures { λ r. ⌜ r ≡ cond (eqb (getD (now (letter .entry)) e 0) m) (getD (now (side .entry)) e 0) e ⌝ }
 {

@@ -1,19 +1,18 @@
 -- `leaf`: the numbers of terminals are their low parts.
-use borrow.Author.Needs.{needs}
-use Rattle.diagram.specs.Store.{add}
-use Rattle.descent.proofs.Going.{leaf-settleable, leaf-number}
 use Rattle.functions.proofs.Applying.{leaf-done}
+use Rattle.descent.proofs.Going.{leaf-settleable, leaf-number}
+use borrow.Author.Needs.{needs}
 use Rattle.descent.proofs.descend.leaf.Statement.{statement}
 use Rattle.descent.proofs.descend.leaf.Tie as tie
 
-leaf-numbers-requires : tie.Need-leaf-numbers-requires
-leaf-numbers-requires c κs = c .before .before .before .before .before .before .pre .0 .entries
+live-numbers-requires : tie.Need-live-numbers-requires
+live-numbers-requires c κs = ((c .before .before .before .before .before .before .pre .0 .0 .entries, c .before .before .before .before .before .before .pre .0 .1), c .before .before .before .before .before .before .pre .1 .0)
 
 slice-aggregate-settled : tie.Need-slice-aggregate-settled
 slice-aggregate-settled c = search needs
 
 settled-requires : tie.Need-settled-requires
-settled-requires c κs = leaf-settleable (c .before .before .before .before .before .before .before .before .pre .0) (c .before .leaf-numbers .ensures)
+settled-requires c κs = leaf-settleable (c .before .before .before .before .before .before .before .before .pre .0 .0) (c .before .live-numbers .ensures)
 
 add-requires : tie.Need-add-requires
 add-requires c κs = search needs
@@ -31,13 +30,13 @@ same-length-4 : tie.Need-same-length-4
 same-length-4 c = search needs
 
 returns : tie.Need-returns
-returns c = leaf-done _ _ (leaf-number _ _ (c .before .before .before .before .before .before .before .before .before .before .before .before .before .before .before .before .before .before .before .before .before .before .pre .0) (c .before .before .before .before .before .before .before .before .before .before .before .before .before .before .before .leaf-numbers .ensures) (c .before .before .before .before .before .before .before .before .before .before .before .before .before .settled .ensures)) (c .before .before .before .before .before .before .before .before .add .ensures)
+returns c = leaf-done _ _ (leaf-number _ _ (c .before .before .before .before .before .before .before .before .before .before .before .before .before .before .before .before .before .before .before .before .before .before .pre .0 .0) (c .before .before .before .before .before .before .before .before .before .before .before .before .before .before .before .live-numbers .ensures) (c .before .before .before .before .before .before .before .before .before .before .before .before .before .settled .ensures)) (c .before .before .before .before .before .before .before .before .add .ensures)
 
 pub leaf-spec : {M : Type 1} → statement M
 leaf-spec =
     tie.close
     (tie.spec
-    leaf-numbers-requires
+    live-numbers-requires
     slice-aggregate-settled
     settled-requires
     add-requires

@@ -1,0 +1,108 @@
+-- The slots of a memo: comparing and replacing the roots of one.
+use mathlib.Core.Path.{_≡_, refl, sym, _∙_, ap}
+use mathlib.Core.Logic.{⊎-elim}
+use mathlib.Core.List.{List}
+use Prim.Native.Nat.{ℕ, suc, _+_, _-_, _*_, _<_, _≤_}
+use native.Mathlib.Omega.{arith}
+use lib.ListN.{length, getD, set, drop, length-set, length-take, length-drop}
+use lib.Seq.{getD-take, getD-drop, getD-set-same, getD-set-other, ext-getD}
+use Rattle.lists.proofs.Cases.{eq-or-ne, lt-or-ge}
+use Rattle.descent.specs.Memo.{slotRoots, Looked, Remembered}
+
+-- the place of root i of slot s
+abbrev pub place : ℕ → ℕ → ℕ
+place s i = 64 + 92 * s + i
+
+-- the roots of a slot, place by place
+pub slot-at : (memo : List ℕ) (s i : ℕ) → i < 92 → getD (slotRoots memo s) i 0 ≡ getD memo (place s i) 0
+slot-at memo s i h = getD-take 92 (drop (64 + 92 * s) memo) i 0 h ∙ getD-drop (64 + 92 * s) memo i 0
+
+-- there are 92
+pub slot-length : (memo : List ℕ) (s : ℕ) → length memo ≡ 5952 → s < 64 → length (slotRoots memo s) ≡ 92
+slot-length memo s long small =
+    let d : length (drop (64 + 92 * s) memo) ≡ 5952 - (64 + 92 * s) = length-drop (64 + 92 * s) memo ∙ ap (λ (n : ℕ). n - (64 + 92 * s)) long in
+    simp length-take (omega arith)
+
+-- the roots of a slot are those that stand in its places
+pub slot-is : (memo : List ℕ) (s : ℕ) (roots : List ℕ) → length memo ≡ 5952 → s < 64 → length roots ≡ 92
+    → ((i : ℕ) → i < 92 → getD memo (place s i) 0 ≡ getD roots i 0) → slotRoots memo s ≡ roots
+slot-is memo s roots long small lr is =
+    let n : length (slotRoots memo s) ≡ 92 = slot-length memo s long small in
+    ext-getD 0 (slotRoots memo s) roots (n ∙ sym lr) (λ i h. slot-at memo s i (omega arith) ∙ is i (omega arith))
+
+-- the first roots of a slot were compared
+pub record SameTo (memo : List ℕ) (slot : ℕ) (roots : List ℕ) (i : ℕ) : Type 0 where
+  pub is : (j : ℕ) → j < i → getD memo (place slot j) 0 ≡ getD roots j 0
+
+pub same-none : (memo : List ℕ) (slot : ℕ) (roots : List ℕ) → SameTo memo slot roots 0
+same-none memo slot roots = record { is = λ j h. absurd (omega arith) }
+
+pub same-next : {memo : List ℕ} {slot : ℕ} {roots : List ℕ} {i : ℕ} → SameTo memo slot roots i → getD memo (place slot i) 0 ≡ getD roots i 0 → SameTo memo slot roots (i + 1)
+same-next {memo} {slot} {roots} {i} h e = record {
+  is = λ j l.
+      ⊎-elim
+      (λ (q : j ≡ i). rw q e)
+      (λ (q : j ≡ i → ⊥). h .is j (omega arith))
+      (eq-or-ne j i);
+}
+
+-- a free slot, or other roots
+pub looked-none : (memo : List ℕ) (slot : ℕ) (roots : List ℕ) → Looked memo slot roots 0
+looked-none memo slot roots = record { word = λ n. absurd (n refl); key = λ n. absurd (n refl) }
+
+-- the same roots
+pub looked-same : {memo : List ℕ} {slot : ℕ} {roots : List ℕ} {i : ℕ} → length memo ≡ 5952 → slot < 64 → length roots ≡ 92 → 92 ≤ i → SameTo memo slot roots i → Looked memo slot roots (getD memo slot 0)
+looked-same {memo} {slot} {roots} long small lr le h = record { word = λ _. refl; key = λ _. slot-is memo slot roots long small lr (λ j g. h .is j (omega arith)) }
+
+-- the first i roots of a slot were replaced
+pub record KeptTo (memo : List ℕ) (slot : ℕ) (roots : List ℕ) (i : ℕ) (out : List ℕ) : Type 0 where
+  pub long : length out ≡ 5952
+  pub is : (j : ℕ) → j < i → getD out (place slot j) 0 ≡ getD roots j 0
+  pub before : (j : ℕ) → j < place slot 0 → getD out j 0 ≡ getD memo j 0
+  pub past : (j : ℕ) → place slot i ≤ j → getD out j 0 ≡ getD memo j 0
+
+pub kept-none : (memo : List ℕ) (slot : ℕ) (roots : List ℕ) → length memo ≡ 5952 → KeptTo memo slot roots 0 memo
+kept-none memo slot roots long = record { long = long; is = λ j h. absurd (omega arith); before = λ j _. refl; past = λ j _. refl }
+
+pub kept-next : {memo : List ℕ} {slot : ℕ} {roots : List ℕ} {i : ℕ} {out : List ℕ} → slot < 64 → i < 92 → KeptTo memo slot roots i out
+    → KeptTo memo slot roots (i + 1) (set out (place slot i) (getD roots i 0))
+kept-next {memo} {slot} {roots} {i} {out} small few h =
+    let v : ℕ = getD roots i 0 in
+    record {
+      long = length-set out (place slot i) v ∙ h .long;
+      is = λ j l.
+          ⊎-elim
+          (λ (q : j ≡ i). rw q (getD-set-same out (place slot i) v 0 (omega (arith, h .long))))
+          (λ (q : j ≡ i → ⊥). getD-set-other out (place slot i) (place slot j) v 0 (λ (z : place slot j ≡ place slot i). q (omega arith)) ∙ h .is j (omega arith))
+          (eq-or-ne j i);
+      before = λ j l. getD-set-other out (place slot i) j v 0 (λ (q : j ≡ place slot i). absurd (omega arith)) ∙ h .before j l;
+      past = λ j l. getD-set-other out (place slot i) j v 0 (λ (q : j ≡ place slot i). absurd (omega arith)) ∙ h .past j (omega arith);
+    }
+
+-- the places of two slots differ
+apart : (s slot i : ℕ) → slot ≤ s → (s ≡ slot → ⊥) → place slot 92 ≤ place s i
+apart s slot i le n = omega arith
+
+-- all were replaced, and then its word
+pub kept-all : {memo : List ℕ} {slot : ℕ} {roots : List ℕ} {e i : ℕ} {out : List ℕ} → length memo ≡ 5952 → slot < 64 → length roots ≡ 92 → i ≡ 92 → KeptTo memo slot roots i out
+    → Remembered memo slot roots e (set out slot (e + 1))
+kept-all {memo} {slot} {roots} {e} {i} {out} long small lr last h =
+    let size : length (set out slot (e + 1)) ≡ 5952 = length-set out slot (e + 1) ∙ h .long in
+    let key-at : (s i : ℕ) → getD (set out slot (e + 1)) (place s i) 0 ≡ getD out (place s i) 0 =
+    λ s i. getD-set-other out slot (place s i) (e + 1) 0 (λ (q : place s i ≡ slot). absurd (omega arith)) in
+    let one : e + 1 ≡ suc e = omega arith in
+    record {
+      long = size;
+      word = getD-set-same out slot (e + 1) 0 (omega (arith, h .long)) ∙ one;
+      key = slot-is (set out slot (e + 1)) slot roots size small lr (λ j g. key-at slot j ∙ h .is j (omega arith));
+      other-word = λ s l n. getD-set-other out slot s (e + 1) 0 n ∙ h .before s (omega arith);
+      other-key = λ s l n.
+          slot-is (set out slot (e + 1)) s (slotRoots memo s) size l (slot-length memo s long l)
+          (λ j g.
+          key-at s j
+          ∙ ⊎-elim
+          (λ (q : s < slot). h .before (place s j) (omega arith))
+          (λ (q : slot ≤ s). h .past (place s j) (omega (arith, apart s slot j q n)))
+          (lt-or-ge s slot)
+          ∙ sym (slot-at memo s j g));
+    }

@@ -1,0 +1,41 @@
+-- A memo of a descent: which entry was stored for which roots.
+use mathlib.Core.Path.{_≡_}
+use mathlib.Core.List.{List}
+use Prim.Native.Nat.{ℕ, suc, _+_, _*_, _<_}
+use lib.ListN.{length, getD, take, drop}
+use Rattle.diagram.specs.Pattern.{patterns}
+use Rattle.diagram.specs.Table.{Table, numberAt}
+
+-- a word for each slot, 0 where it is free, else its entry and one more; then the roots of each slot
+abbrev pub slots : ℕ
+slots = 64
+
+abbrev pub memoLength : ℕ
+memoLength = 5952
+
+-- the roots of slot s
+abbrev pub slotRoots : List ℕ → ℕ → List ℕ
+slotRoots memo s = take 92 (drop (slots + 92 * s) memo)
+
+-- entry e is what roots settle, by F, at every pattern
+pub record Means (F : List ℕ → ℕ → ℕ) (letters : ℕ) (t : Table) (roots : List ℕ) (e : ℕ) : Type 0 where
+  pub within : e < length t
+  pub number : (p : ℕ) → p < patterns letters → numberAt letters t e p ≡ F roots p
+
+-- each slot is free, or its entry is what its roots settle
+pub record Memo (F : List ℕ → ℕ → ℕ) (letters : ℕ) (t : Table) (memo : List ℕ) : Type 0 where
+  pub long : length memo ≡ memoLength
+  pub is : (s e : ℕ) → s < slots → getD memo s 0 ≡ suc e → Means F letters t (slotRoots memo s) e
+
+-- the word of a slot whose roots are these, or 0
+pub record Looked (memo : List ℕ) (slot : ℕ) (roots : List ℕ) (r : ℕ) : Type 0 where
+  pub word : (r ≡ 0 → ⊥) → r ≡ getD memo slot 0
+  pub key : (r ≡ 0 → ⊥) → slotRoots memo slot ≡ roots
+
+-- a slot has new roots and their entry; the others are as before
+pub record Remembered (memo : List ℕ) (slot : ℕ) (roots : List ℕ) (e : ℕ) (out : List ℕ) : Type 0 where
+  pub long : length out ≡ memoLength
+  pub word : getD out slot 0 ≡ suc e
+  pub key : slotRoots out slot ≡ roots
+  pub other-word : (s : ℕ) → s < slots → (s ≡ slot → ⊥) → getD out s 0 ≡ getD memo s 0
+  pub other-key : (s : ℕ) → s < slots → (s ≡ slot → ⊥) → slotRoots out s ≡ slotRoots memo s

@@ -1,0 +1,165 @@
+// The roots that are not entry 0, by a list of their places: what is left of them, their least letter, their parts, their numbers.
+use crate::letters::TERMINAL;
+use crate::letters::entry_of;
+use crate::letters::least;
+use crate::letters::part;
+use crate::mask::matters;
+use crate::piece::piece;
+ghost use mathlib.Core.Path.{_≡_};
+ghost use mathlib.Core.Bool.{cond};
+ghost use Prim.Native.Nat.{ℕ, _+_, _<_};
+ghost use lib.ListN.{length, getD, set};
+ghost use lib.Dec.{eqb};
+ghost use Rattle.diagram.specs.Table.{terminalLetter};
+ghost use Rattle.net.specs.Net.{netCircuit};
+ghost use Rattle.walk.specs.Ready.{Net};
+ghost use Rattle.descent.specs.Piece.{matters as mattersOf, Selected, Narrowed};
+ghost use Rattle.descent.specs.Live.{Live};
+ghost use Rattle.descent.specs.Descend.{Inner, Entries, Least, HalfOf, NumbersOf};
+
+// All places.
+pub fn all_places() -> [u32; 92]
+    ensures { λ r. ⌜ (length r ≡ 92) × ((i : ℕ) → i < 92 → getD r i 0 ≡ i) ⌝ }
+{
+    let mut out: [u32; 92] = [0; 92];
+    let mut i: u32 = 0;
+    while i < 92 {
+        let at = i as usize;
+        out[at] = i;
+        i += 1;
+    }
+    out
+}
+
+// Root j where it matters, else entry 0.
+fn kept_root(net: &[u32], marks: &[u32; 26], j: u32, root: u32) -> u32
+    requires { ⌜ Net (now net) ⌝ }
+    ensures { λ r. ⌜ r ≡ cond (mattersOf (now (net .entry)) (now (marks .entry)) j) root 0 ⌝ }
+{
+    if root == 0 {
+        return 0;
+    }
+    if matters(net, marks, j) {
+        return root;
+    }
+    0
+}
+
+// Puts place j behind the places so far, unless its root is entry 0.
+fn note_place(list: &mut [u32; 92], count: u32, j: u32, root: u32) -> u32
+    requires { ⌜ count < 92 ⌝ }
+    ensures { λ r. ⌜ r ≡ cond (eqb root 0) count (count + 1) ⌝ }
+    ensures { λ r. ⌜ now (list .exit) ≡ cond (eqb root 0) (now (list .entry)) (set (now (list .entry)) count j) ⌝ }
+{
+    if root == 0 {
+        return count;
+    }
+    let end = count as usize;
+    list[end] = j;
+    count + 1
+}
+
+// The roots that matter to a piece, and the list of their places. Gives their count.
+fn keep(
+    net: &[u32],
+    roots: &[u32; 92],
+    marks: &[u32; 26],
+    live: &[u32; 92],
+    count: u32,
+    out: &mut [u32; 92],
+    list: &mut [u32; 92],
+) -> u32
+    requires { ⌜ Net (now net) ⌝ }
+    requires { ⌜ Live (now roots) (now live) count × Live (now out) (now live) count × (length (now list) ≡ 92) ⌝ }
+    ensures { λ r. ⌜ Selected (now (net .entry)) (now (roots .entry)) (now (marks .entry)) (now (out .exit)) ⌝ }
+    ensures { λ r. ⌜ Live (now (out .exit)) (now (list .exit)) r ⌝ }
+{
+    let mut total: u32 = 0;
+    let mut i: u32 = 0;
+    while i < count {
+        let k = i as usize;
+        let j = live[k];
+        let at = j as usize;
+        let root = kept_root(net, marks, j, roots[at]);
+        out[at] = root;
+        total = note_place(list, total, j, root);
+        i += 1;
+    }
+    total
+}
+
+// The roots that matter to node n, and the list of their places. Gives their count.
+pub fn narrow(
+    net: &[u32],
+    n: u32,
+    roots: &[u32; 92],
+    live: &[u32; 92],
+    count: u32,
+    out: &mut [u32; 92],
+    list: &mut [u32; 92],
+) -> u32
+    requires { ⌜ Inner (now net) n ⌝ }
+    requires { ⌜ Live (now roots) (now live) count × Live (now out) (now live) count × (length (now list) ≡ 92) ⌝ }
+    ensures { λ r. ⌜ Narrowed (netCircuit (now (net .entry))) n (now (roots .entry)) (now (out .exit)) ⌝ }
+    ensures { λ r. ⌜ Live (now (out .exit)) (now (list .exit)) r ⌝ }
+{
+    let marks = piece(net, roots, n);
+    keep(net, roots, &marks, live, count, out, list)
+}
+
+// The least letter of the roots; a terminal's where all are terminals.
+pub fn least_live(letter: &[u32], roots: &[u32; 92], live: &[u32; 92], count: u32) -> u32
+    requires { ⌜ Entries (now letter) (now roots) × (getD (now letter) 0 0 ≡ terminalLetter) ⌝ }
+    requires { ⌜ Live (now roots) (now live) count ⌝ }
+    ensures { λ r. ⌜ Least (now (letter .entry)) (now (roots .entry)) r ⌝ }
+{
+    let mut m = TERMINAL;
+    let mut i: u32 = 0;
+    while i < count {
+        let k = i as usize;
+        let at = live[k] as usize;
+        m = least(m, entry_of(letter, roots[at]));
+        i += 1;
+    }
+    m
+}
+
+// The low or high parts of the roots at letter m, which is not entry 0's.
+pub fn halve(
+    letter: &[u32],
+    side: &[u32],
+    roots: &[u32; 92],
+    live: &[u32; 92],
+    count: u32,
+    m: u32,
+    out: &mut [u32; 92],
+)
+    requires { ⌜ Entries (now letter) (now roots) × (length (now side) ≡ length (now letter)) × (getD (now letter) 0 0 ≡ m → ⊥) ⌝ }
+    requires { ⌜ Live (now roots) (now live) count × Live (now out) (now live) count ⌝ }
+    ensures { λ r. ⌜ HalfOf (now (letter .entry)) (now (side .entry)) (now (roots .entry)) m (now (out .exit)) ⌝ }
+{
+    let mut i: u32 = 0;
+    while i < count {
+        let k = i as usize;
+        let at = live[k] as usize;
+        out[at] = part(letter, side, m, roots[at]);
+        i += 1;
+    }
+}
+
+// The numbers of roots that are terminals.
+pub fn live_numbers(low: &[u32], roots: &[u32; 92], live: &[u32; 92], count: u32) -> [u32; 92]
+    requires { ⌜ Entries (now low) (now roots) × (getD (now low) 0 0 ≡ 0) ⌝ }
+    requires { ⌜ Live (now roots) (now live) count ⌝ }
+    ensures { λ r. ⌜ NumbersOf (now (low .entry)) (now (roots .entry)) r ⌝ }
+{
+    let mut out: [u32; 92] = [0; 92];
+    let mut i: u32 = 0;
+    while i < count {
+        let k = i as usize;
+        let at = live[k] as usize;
+        out[at] = entry_of(low, roots[at]);
+        i += 1;
+    }
+    out
+}
