@@ -12,7 +12,7 @@ use Rattle.refusal.specs.Answer.{Answer}
 use Rattle.lists.proofs.Cases.{eq-or-ne, and-left, and-right, true-false}
 use Rattle.format.specs.Circuit.{Circuit}
 use Rattle.diagram.specs.Table.{never}
-use Rattle.diagram.specs.Call.{tableOf}
+use Rattle.diagram.specs.Call.{mostEntries, tableOf}
 use Rattle.diagram.proofs.Sound.{Sound}
 use Rattle.diagram.proofs.Add.{Extends, extends-refl, extends-trans}
 use Rattle.rules.specs.Run as defined
@@ -28,7 +28,9 @@ use Rattle.net.specs.Net.{lettersPlace, horizonPlace, at, netCircuit}
 use Rattle.net.specs.Laid.{Laid}
 use Rattle.record.specs.declared.Run.{Run}
 use Rattle.record.specs.Record.{runOf, recordOf}
+use Rattle.record.specs.Leasts.{Leasts}
 use Rattle.record.proofs.Record.{run-of-record}
+use Rattle.record.proofs.Leasts.{leasts-extends}
 use Rattle.moment.specs.Next.{NextAs}
 use Rattle.advance.specs.Reached.{Reached}
 use Rattle.advance.proofs.Ends.{letters-at}
@@ -42,12 +44,18 @@ pub record Standing (net l w h ix : List ℕ) (r : Run) : Type 0 where
   pub opened : Open (at net lettersPlace) l w h ix (r .used)
   pub sound : runSound (netCircuit net) (tableOf (columns l w h) (r .used)) (runOf (netCircuit net) r) ≡ true
 
+-- the next time, and a column with the least number of every entry
+pub record Timed (net l w h : List ℕ) (r : Run) (time : ℕ) (least : List ℕ) : Type 0 where
+  pub time-is : time ≡ timeAfter (netCircuit net) (momentGiven (columns l w h) (runOf (netCircuit net) r))
+  pub least-long : length least ≡ mostEntries
+  pub leasts : Leasts (at net lettersPlace) (tableOf (columns l w h) (r .used)) (r .used) least
+
 -- the steps up to now: what is left to run from here is what was asked at first, and no entry was taken away
-pub record Going (net : List ℕ) (until : ℕ) (l₀ w₀ h₀ : List ℕ) (r₀ : Run) (l w h ix : List ℕ) (r : Run) (time : ℕ) : Type 0 where
+pub record Going (net : List ℕ) (until : ℕ) (l₀ w₀ h₀ : List ℕ) (r₀ : Run) (l w h ix : List ℕ) (r : Run) (time : ℕ) (least : List ℕ) : Type 0 where
   pub long : length l ≡ length l₀
   pub standing : Standing net l w h ix r
   pub whole : r ≡ recordOf (runOf (netCircuit net) r)
-  pub time-is : time ≡ timeAfter (netCircuit net) (momentGiven (columns l w h) (runOf (netCircuit net) r))
+  pub timed : Timed net l w h r time least
   pub kept : Extends (tableOf (columns l₀ w₀ h₀) (r₀ .used)) (tableOf (columns l w h) (r .used))
   pub left : ran (netCircuit net) until (length l₀) (momentGiven (columns l₀ w₀ h₀) (runOf (netCircuit net) r₀))
       ≡ ran (netCircuit net) until (length l₀) (momentGiven (columns l w h) (runOf (netCircuit net) r))
@@ -71,6 +79,10 @@ sized-same {ix = ix} {ix′ = ix′} s a b c d = record {
 -- such a moment is sound
 pub standing-sound : {net l w h ix : List ℕ} {r : Run} → Standing net l w h ix r → SoundMoment (netCircuit net) (momentGiven (columns l w h) (runOf (netCircuit net) r))
 standing-sound {net} s = tests-sound (rw (letters-at net) (s .opened .legible .sound)) (s .sound) (s .opened .holds .long)
+
+-- a column as long as the longest table has room for the entries
+pub open-room : {k : ℕ} {l w h ix : List ℕ} {used : ℕ} → Open k l w h ix used → (least : List ℕ) → length least ≡ mostEntries → used ≤ length least
+open-room o least long = omega (arith, o .holds .ready .fits, o .holds .ready .sized .most)
 
 -- zeros past the node records make no other run
 module _ {net l w h ix : List ℕ} {r r′ : Run} (s : Standing net l w h ix r) (e : r′ ≡ recordOf (runOf (netCircuit net) r)) where
@@ -101,13 +113,13 @@ module _ {net l w h ix : List ℕ} {r r′ : Run} (s : Standing net l w h ix r) 
   tidy-whole = e ∙ ap recordOf (sym tidy-run)
 
 -- no step yet
-pub going-start : {net l w h ix : List ℕ} {r : Run} {time : ℕ} (until : ℕ) → Standing net l w h ix r → r ≡ recordOf (runOf (netCircuit net) r)
-    → time ≡ timeAfter (netCircuit net) (momentGiven (columns l w h) (runOf (netCircuit net) r)) → Going net until l w h r l w h ix r time
-going-start {net} {l} {w} {h} {ix} {r} until s e t = record {
+pub going-start : {net l w h ix least : List ℕ} {r : Run} {time : ℕ} (until : ℕ) → Standing net l w h ix r → r ≡ recordOf (runOf (netCircuit net) r)
+    → Timed net l w h r time least → Going net until l w h r l w h ix r time least
+going-start {net} {l} {w} {h} {ix} {least} {r} until s e t = record {
   long = refl;
   standing = s;
   whole = e;
-  time-is = t;
+  timed = t;
   kept = extends-refl (tableOf (columns l w h) (r .used));
   left = refl;
 }
@@ -141,6 +153,19 @@ module _ {net l w h ix l′ w′ h′ ix′ : List ℕ} {r r′ : Run} {full : B
     sound = subst (λ (x : Moment). runSound c (x .table) (x .run) ≡ true) (sym moment-same) (sound-tests stepped .1);
   }
 
+  -- no entry is taken away
+  pub step-kept : Extends (tableOf (columns l w h) (r .used)) (tableOf (columns l′ w′ h′) (r′ .used))
+  step-kept = subst (Extends (tableOf (columns l w h) (r .used))) (sym table-same) (step-extends (laid .legal) (standing-sound s))
+
+  pub step-more : r .used ≤ r′ .used
+  step-more = omega (arith, step-kept .longer, s .opened .holds .long, step-standing .opened .holds .long)
+
+  -- so the least numbers in a column are right
+  pub step-leasts : {least : List ℕ} → Leasts (at net lettersPlace) (tableOf (columns l w h) (r .used)) (r .used) least
+      → Leasts (at net lettersPlace) (tableOf (columns l′ w′ h′) (r′ .used)) (r .used) least
+  step-leasts g =
+      leasts-extends g (laid .within .letters) (subst (λ (k : ℕ). Sound k (m .table)) (letters-at net) (standing-sound s .table)) step-kept (omega (arith, s .opened .holds .long))
+
   -- it is later, and within the horizon
   pub step-later : (r .time < r′ .time) × (r′ .time ≤ at net horizonPlace)
   step-later =
@@ -149,19 +174,19 @@ module _ {net l w h ix l′ w′ h′ ix′ : List ℕ} {r r′ : Run} {full : B
       omega (arith, horizon-at net)
 
 -- the loop
-module _ {net : List ℕ} {until : ℕ} {l₀ w₀ h₀ : List ℕ} {r₀ : Run} {l w h ix : List ℕ} {r : Run} {time : ℕ} (laid : Laid (netCircuit net) net)
-    (g : Going net until l₀ w₀ h₀ r₀ l w h ix r time) where
+module _ {net : List ℕ} {until : ℕ} {l₀ w₀ h₀ : List ℕ} {r₀ : Run} {l w h ix : List ℕ} {r : Run} {time : ℕ} {least : List ℕ} (laid : Laid (netCircuit net) net)
+    (g : Going net until l₀ w₀ h₀ r₀ l w h ix r time least) where
   -- the loop's test
   pub going-takes : (not (eqb time never) && leb time until) ≡ true → Takes (netCircuit net) until (momentGiven (columns l w h) (runOf (netCircuit net) r))
   going-takes e =
-      let t : time ≡ timeAfter (netCircuit net) (momentIn net l w h r) = g .time-is in
+      let t : time ≡ timeAfter (netCircuit net) (momentIn net l w h r) = g .timed .time-is in
       let some : time ≡ never → ⊥ = eqb-false time never (not-true (eqb time never) (and-left (not (eqb time never)) (leb time until) e)) in
       let k : time ≤ until = leb-true time until (and-right (not (eqb time never)) (leb time until) e) in
       record { more = omega (arith, time-never (netCircuit net) (momentIn net l w h r)); reach = omega arith }
 
   going-left : (not (eqb time never) && leb time until) ≡ false → Rests (netCircuit net) until (momentGiven (columns l w h) (runOf (netCircuit net) r))
   going-left e =
-      let t : time ≡ timeAfter (netCircuit net) (momentIn net l w h r) = g .time-is in
+      let t : time ≡ timeAfter (netCircuit net) (momentIn net l w h r) = g .timed .time-is in
       ⊎-elim
       (λ (z : time ≡ never). inl (sym t ∙ z))
       (λ (z : time ≡ never → ⊥). inr (let k : until < time = leb-false time until (rw (ne-eqb time never z) at e) in omega arith))
@@ -204,17 +229,16 @@ module _ {net : List ℕ} {until : ℕ} {l₀ w₀ h₀ : List ℕ} {r₀ : Run}
           }
 
       -- that has room
-      pub going-next : full ≡ false → (time′ : ℕ) → time′ ≡ timeAfter (netCircuit net) (momentGiven (columns l′ w′ h′) (runOf (netCircuit net) r′))
-          → Going net until l₀ w₀ h₀ r₀ l′ w′ h′ ix′ r′ time′
-      going-next e time′ t =
+      pub going-next : full ≡ false → {time′ : ℕ} {least′ : List ℕ} → Timed net l′ w′ h′ r′ time′ least′ → Going net until l₀ w₀ h₀ r₀ l′ w′ h′ ix′ r′ time′ least′
+      going-next e t =
           let o : length (after .table) ≤ length l′ = ltb-false (length l′) (length (after .table)) (sym (n .full-is) ∙ e) in
           let same : momentIn net l′ w′ h′ r′ ≡ after = moment-same laid (g .standing) n (takes .more) e in
           record {
             long = long ∙ g .long;
             standing = step-standing laid (g .standing) n (takes .more) e;
             whole = n .run-is e ∙ ap (λ (x : Moment). recordOf (x .run)) (sym same);
-            time-is = t;
-            kept = extends-trans (g .kept) (subst (Extends (tableOf (columns l w h) (r .used))) (ap (λ (x : Moment). x .table) (sym same)) (step-extends (laid .legal) (standing-sound (g .standing))));
+            timed = t;
+            kept = extends-trans (g .kept) (step-kept laid (g .standing) n (takes .more) e);
             left = goes-on
                 ∙ ap (λ (a : Answer Moment). continued a (ran (netCircuit net) until (length l₀))) (fitting-fits (length l₀) after (omega (arith, g .long)))
                 ∙ ap (ran (netCircuit net) until (length l₀)) (sym same);

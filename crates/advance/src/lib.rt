@@ -1,6 +1,7 @@
 // Start, step and run up to a picosecond on a cell that is laid out flat, with lent columns of legal lengths.
-// Promise: the reply, the run and the table afterwards are those of the definitions (rules' specs/Call.antt); soundness is checked and
-// the index built once, also for a run of many steps. Internal to our crates: crate run has the calls on files and cells.
+// Promise: the reply, the run and the table afterwards are those of the definitions (rules' specs/Call.antt); soundness is checked, the
+// index built and each entry's least number found once, also for a run of many steps. Internal to our crates: crate run has the calls
+// on files and cells.
 mod close;
 mod steps;
 
@@ -118,7 +119,8 @@ fn step_task(
     if !sound_together(net, letter, low, high, index, r) {
         return refused(Refusal::Unsound, r);
     }
-    let time = time_after(net, letter, low, high, r);
+    let mut least = [0u32; 65536];
+    let time = time_after(net, letter, low, high, r, &mut least, 0);
     if time == NEVER {
         return refused(Refusal::Finished, r);
     }
@@ -134,6 +136,7 @@ fn step_task(
         whigh,
         windex,
         time,
+        &least,
     );
     closed(letter, low, high, r.used, r, next)
 }

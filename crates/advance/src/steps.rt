@@ -50,7 +50,8 @@ fn tidy(net: &[u32], r: Run) -> Run
     }
 }
 
-// The steps of a run up to a picosecond, in a sound table beside its index.
+// The steps of a run up to a picosecond, in a sound table beside its index. A step only appends entries, so the least numbers of those
+// before it stay.
 pub fn steps(
     net: &[u32],
     letter: &mut [u32],
@@ -69,7 +70,8 @@ pub fn steps(
     ensures { λ x. ⌜ Reached (tableOf (columns (now (letter .entry)) (now (low .entry)) (now (high .entry))) (r .used)) (runMoment (netCircuit (now (net .entry)) .horizon .0) (netCircuit (now (net .entry))) until (length (now (letter .entry))) (momentGiven (columns (now (letter .entry)) (now (low .entry)) (now (high .entry))) (runOf (netCircuit (now (net .entry))) r))) (now (letter .exit)) (now (low .exit)) (now (high .exit)) (now (index .exit)) (x .full) (x .run) ⌝ }
 {
     let mut now = tidy(net, r);
-    let mut time = time_after(net, letter, low, high, now);
+    let mut least = [0u32; 65536];
+    let mut time = time_after(net, letter, low, high, now, &mut least, 0);
     while (time != NEVER) & (time <= until) {
         let next = step(
             net,
@@ -83,13 +85,15 @@ pub fn steps(
             whigh,
             windex,
             time,
+            &least,
         );
         if next.full {
             return next;
         }
+        let done = now.used;
         let after = next.run;
         now = after;
-        time = time_after(net, letter, low, high, now);
+        time = time_after(net, letter, low, high, now, &mut least, done);
     }
     Next {
         full: false,

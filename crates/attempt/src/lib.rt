@@ -134,7 +134,7 @@ fn attempt_in(
     Tried { done: true, put }
 }
 
-fn smaller(n: usize) -> usize
+pub fn smaller(n: usize) -> usize
     ensures { λ r. ⌜ r ≡ min n 4096 ⌝ }
 {
     if n < MOST { n } else { MOST }

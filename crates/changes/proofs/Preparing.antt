@@ -1,5 +1,5 @@
 -- The roots of a prepared step: they serve every inner node, and settle its next change.
-use mathlib.Core.Path.{_≡_, refl, sym, _∙_, ap, subst}
+use mathlib.Core.Path.{_≡_, refl, sym, _∙_, ap}
 use mathlib.Core.List.{List, map}
 use mathlib.Core.Bool.{Bool, true, false, cond}
 use Prim.Native.Nat.{ℕ, _+_, _≤_, _<_}
@@ -11,12 +11,11 @@ use Rattle.format.proofs.Every.{map-at}
 use Rattle.diagram.specs.Pattern.{patterns}
 use Rattle.diagram.specs.Table.{Table}
 use Rattle.diagram.specs.Call.{tableOf}
-use Rattle.rules.specs.State.{upFrom, isInner, nodeNumbers}
-use Rattle.rules.specs.Run.{StoredAll, storeAll}
+use Rattle.rules.specs.State.{upFrom, isInner}
+use Rattle.rules.specs.Run.{storeAll}
 use Rattle.rules.proofs.State.{up-length, up-at}
 use Rattle.rules.proofs.StoreAll.{noFunction, storeAll-ext}
 use Rattle.net.specs.Net.{nodesPlace, lettersPlace, at, netCircuit}
-use Rattle.net.proofs.Laying.{nodes-length}
 use Rattle.walk.specs.Ready.{Net, Noded}
 use Rattle.table.specs.Holds.{columns}
 use Rattle.functions.specs.Open.{Open}
@@ -27,7 +26,6 @@ use Rattle.prepare.specs.Roots.{Roots}
 use Rattle.descent.specs.Descend.{Inner}
 use Rattle.attempt.specs.Places.{EntriesOf}
 use Rattle.attempt.proofs.Prepared.{prepared-rooted, prepared-settles}
-use Rattle.values.specs.All.{OutcomeAll}
 use Rattle.changes.specs.Changes.{entriesFor, changeOf}
 use Rattle.changes.specs.ByRoots.{settledFor, StepRoots}
 use Rattle.changes.proofs.Placed.{entries-long, entries-before, entries-after, entries-change}
@@ -98,18 +96,10 @@ module _ {net l w h ix : List ℕ} {used : ℕ} (cell : Net net) (o : Open (at n
           prepared-rooted (o .legible .few) (legible-sound (o .legible)) r (e .second .ground) (e .second .supply) after-bits (inner-node n node inner) (roots-for roots n);
     }
 
-    step-settles : (time n p : ℕ) → Noded net n → p < patterns k → settledFor (netCircuit net) time k (tableOf (columns wl ww wh) wused) roots n p ≡ changeOf (netCircuit net) time all k t before after pending n p
+    pub step-settles : (time n p : ℕ) → Noded net n → p < patterns (at net lettersPlace)
+        → settledFor (netCircuit net) time (at net lettersPlace) (tableOf (columns wl ww wh) wused) roots n p ≡ changeOf (netCircuit net) time all (at net lettersPlace) (tableOf (columns l w h) used) before after pending n p
     step-settles time n p node less =
         same-cond (isInner (netCircuit net) n) _ _ _
         (λ inner.
         prepared-settles (o .legible .few) (legible-sound (o .legible)) r (e .second .ground) (e .second .supply) after-bits (inner-node n node inner) (roots-for roots n)
         (e .first .ground) (e .first .supply) refl (entries-of n) time p less)
-
-    -- what is stored by the roots is what is stored by the entries
-    pub step-stored : (time : ℕ) {l1 w1 h1 ix1 : List ℕ} {full : Bool} {most : ℕ} {out : List ℕ}
-        → OutcomeAll (tableOf (columns l w h) used) (storeAll (at net lettersPlace) (map (settledFor (netCircuit net) time (at net lettersPlace) (tableOf (columns wl ww wh) wused) roots) (nodeNumbers (netCircuit net))) (tableOf (columns l w h) used)) l1 w1 h1 ix1 full most out
-        → OutcomeAll (tableOf (columns l w h) used) (storeAll (at net lettersPlace) (map (changeOf (netCircuit net) time all (at net lettersPlace) (tableOf (columns l w h) used) before after pending) (nodeNumbers (netCircuit net))) (tableOf (columns l w h) used)) l1 w1 h1 ix1 full most out
-    step-stored time {l1} {w1} {h1} {ix1} {full} {most} {out} =
-        subst (λ (s : StoredAll). OutcomeAll t s l1 w1 h1 ix1 full most out)
-        (nodes-stored k (settledFor (netCircuit net) time k (tableOf (columns wl ww wh) wused) roots) (changeOf (netCircuit net) time all k t before after pending) (length (netCircuit net .nodes)) t
-        (λ n p least less q. step-settles time n p (record { least = least; most = omega (arith, nodes-length net) }) q))

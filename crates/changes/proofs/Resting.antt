@@ -1,11 +1,10 @@
 -- Entries with T taken out: the recursion step by step, and the loop over the nodes.
 use mathlib.Core.Path.{_≡_, refl, sym, _∙_, ap, subst₂}
 use mathlib.Core.List.{List, [], _∷_}
-use mathlib.Core.Bool.{Bool, true, false, not, cond}
+use mathlib.Core.Bool.{cond}
 use Prim.Native.Nat.{ℕ, _+_, _<_}
 use native.Mathlib.Omega.{arith}
 use lib.ListN.{length, getD}
-use borrow.Author.Tests.{not-true}
 use Rattle.format.specs.Circuit.{Circuit, firstNodeNumber}
 use Rattle.diagram.specs.Table.{Table, terminalLetter, terminal, entryAt, never}
 use Rattle.diagram.specs.Store.{add, both, store}
@@ -17,15 +16,11 @@ use Rattle.diagram.proofs.Shannon.{none, root, store-roots}
 use Rattle.rules.specs.State.{isInner}
 use Rattle.table.specs.declared.Put.{Put}
 use Rattle.table.specs.Holds.{columns, Outcome}
-use Rattle.table.proofs.Outcomes.{put}
 use Rattle.functions.specs.Open.{Open, Operand}
 use Rattle.functions.proofs.Carry.{legible-sound, legible-long, letter-at, low-at, high-at}
 use Rattle.functions.proofs.Halving.{Halves}
 use Rattle.working.proofs.Grow.{bring-high}
 use Rattle.descent.specs.Settle.{pendingAfter}
-use Rattle.values.specs.Taken.{takes}
-use Rattle.values.proofs.Single.{own-outcome}
-use Rattle.values.proofs.Taking.{takes-none}
 use Rattle.values.proofs.Series.{Storing, storing-number}
 use Rattle.changes.specs.Rest.{pastOf, restWith, restOf}
 
@@ -67,14 +62,6 @@ module _ {letters : ℕ} {l w h ix : List ℕ} {used : ℕ} (o : Open letters l 
           store-ext letters 0 (pastOf time letters u (getD h e 0)) (pastOf time letters t (getD h e 0)) v
           (λ p _. ap (pendingAfter time) (numberAt-extends (getD h e 0) p (o .legible .few) sound g (omega (arith, bring-high (o .legible) x node .within, legible-long (o .legible)))));
     }
-
--- an entry that has T at no pattern stays
-pub past-nowhere : {k : ℕ} {l w h ix : List ℕ} {used : ℕ} (o : Open k l w h ix used) (time e : ℕ) {due : Bool} → e < used
-    → due ≡ takes k (tableOf (columns l w h) used) e time → not due ≡ true
-    → Outcome (tableOf (columns l w h) used) (store k 0 (pastOf time k (tableOf (columns l w h) used) e) (tableOf (columns l w h) used)) l w h ix (put false e used)
-past-nowhere {k} {l} {w} {h} {ix} {used} o time e {due} small is nowhere =
-    own-outcome o e (pastOf time k (tableOf (columns l w h) used) e) small
-    (λ p i. rw (takes-none k (tableOf (columns l w h) used) e time (sym is ∙ not-true due nowhere) p i))
 
 -- node record i, in the table as it has grown by the nodes before
 pub rest-same : {m k : ℕ} {g : ℕ → ℕ → ℕ} {l₀ w₀ h₀ ix₀ : List ℕ} {used₀ : ℕ} {l w h ix : List ℕ} {used : ℕ} {out : List ℕ} {i : ℕ} → Storing m k g l₀ w₀ h₀ ix₀ used₀ l w h ix used out i

@@ -1,4 +1,4 @@
--- One node: an input has no next change, an inner node has its own.
+-- One node: an input has no next change, an inner node has its own, in one of two ways.
 use mathlib.Core.Path.{_≡_, refl, sym}
 use mathlib.Core.List.{List}
 use mathlib.Core.Bool.{Bool, true, false, cond, true≢false}
@@ -22,3 +22,14 @@ pub inner-put : (k : ℕ) {t : Table} {l w h ix : List ℕ} {r : Put} (inner : B
     → Outcome t (store k 0 (λ p. cond inner (f p) never) t) l w h ix r
 inner-put k true f e o = o
 inner-put k false f e o = absurd (true≢false (sym e))
+
+-- one function or another
+pub first-put : (k : ℕ) {t : Table} {l w h ix : List ℕ} {r : Put} (one : Bool) (f g : ℕ → ℕ) → one ≡ true → Outcome t (store k 0 f t) l w h ix r
+    → Outcome t (store k 0 (λ p. cond one (f p) (g p)) t) l w h ix r
+first-put k true f g e o = o
+first-put k false f g e o = absurd (true≢false (sym e))
+
+pub second-put : (k : ℕ) {t : Table} {l w h ix : List ℕ} {r : Put} (one : Bool) (f g : ℕ → ℕ) → one ≡ false → Outcome t (store k 0 g t) l w h ix r
+    → Outcome t (store k 0 (λ p. cond one (f p) (g p)) t) l w h ix r
+second-put k true f g e o = absurd (true≢false e)
+second-put k false f g e o = o

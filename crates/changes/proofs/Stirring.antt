@@ -1,4 +1,4 @@
--- Where nothing is stirred no node is reconsidered at any pattern, and the pending changes stay but for T.
+-- Where nothing is stirred for a node it is reconsidered at no pattern, and its pending change stays but for T.
 use mathlib.Core.Path.{_≡_, refl, sym, _∙_, ap, subst}
 use mathlib.Core.Logic.{⊎-elim}
 use mathlib.Core.List.{List, [], _∷_, map}
@@ -34,7 +34,7 @@ use Rattle.attempt.specs.Change.{pendingIn, beforeState, afterState, changeFrom
 use Rattle.attempt.proofs.Prepared.{leaf-at}
 use Rattle.values.specs.All.{OutcomeAll}
 use Rattle.changes.specs.Changes.{entriesFor, changeOf}
-use Rattle.changes.specs.Rest.{stirredBy, pastOf, restOf}
+use Rattle.changes.specs.Rest.{stirredBy, stirredFor, pastOf, restOf}
 use Rattle.changes.proofs.Placed.{entries-long, entries-before, entries-after, entries-change}
 use Rattle.changes.proofs.Evaluating.{StepEntries}
 use Rattle.changes.proofs.Preparing.{nodes-stored, same-cond}
@@ -120,22 +120,29 @@ module _ {net : List ℕ} (cell : Net net) {k : ℕ} {t : Table} {used : ℕ} {b
         (and-none (isInput c (u .first)) (changedAt before after (u .first)) (changed first then (u .first)) (still (u .first) (w .first))))
         (and-none (isInput c (u .second)) (changedAt before after (u .second)) (changed first then (u .second)) (still (u .second) (w .second))) q
 
-    -- no node is reconsidered
-    untouched : stirredBy c before after ≡ false → touched c first then n ≡ false
+    -- a node whose group has nothing that stirs is not reconsidered
+    untouched : stirredFor c before after n ≡ false → touched c first then n ≡ false
     unfolding touched
     untouched quiet =
-        some-none (disturbedAt c before after) (λ (u : Transistor). ofGroup c n u && disturbed c first then u) (c .transistors)
-        (λ i h q. and-last (ofGroup c n (getD (c .transistors) i noTransistor)) (disturbed c first then (getD (c .transistors) i noTransistor)) (undisturbed i h q)) quiet
+        some-none (λ (u : Transistor). ofGroup c n u && disturbedAt c before after u) (λ (u : Transistor). ofGroup c n u && disturbed c first then u) (c .transistors)
+        (λ i h. and-none (ofGroup c n (getD (c .transistors) i noTransistor)) (disturbedAt c before after (getD (c .transistors) i noTransistor)) (disturbed c first then (getD (c .transistors) i noTransistor)) (undisturbed i h)) quiet
 
     -- so its pending change stays, but for T
-    from-rest : stirredBy c before after ≡ false → changeFrom c time false n numbers ≡ pastOf time k t change p
+    from-rest : stirredFor c before after n ≡ false → changeFrom c time false n numbers ≡ pastOf time k t change p
     unfolding changeFrom
     from-rest quiet =
         ap (λ (b : Bool). cond b (nextChange c time then (kept c then) n) (pendingIn time numbers)) (and-last (isInner c n) (touched c first then n) (untouched quiet))
         ∙ ap (pendingAfter time) (entry-at 52 (omega arith) ∙ ap (λ (x : ℕ). numberAt k t x p) (entries-change before after change (e .first .long) (e .second .long)))
 
-    rest-change : stirredBy c before after ≡ false → restOf c time k t pending n p ≡ changeOf c time false k t before after pending n p
-    rest-change quiet = same-cond (isInner c n) _ _ _ (λ inner. sym (from-rest quiet))
+    pub rest-change : (all : Bool) → (isInner (netCircuit net) n ≡ true → (all ≡ false) × (stirredFor (netCircuit net) before after n ≡ false))
+        → restOf (netCircuit net) time k t pending n p ≡ changeOf (netCircuit net) time all k t before after pending n p
+    rest-change all quiet = same-cond (isInner c n) _ _ _ (λ inner. rw (quiet inner .0) (sym (from-rest (quiet inner .1))))
+
+-- where nothing is stirred nothing is stirred for a node
+none-for : (c : Circuit) (before after : List ℕ) (n : ℕ) → stirredBy c before after ≡ false → stirredFor c before after n ≡ false
+none-for c before after n =
+    some-none (disturbedAt c before after) (λ (u : Transistor). ofGroup c n u && disturbedAt c before after u) (c .transistors)
+    (λ i h q. and-last (ofGroup c n (getD (c .transistors) i noTransistor)) (disturbedAt c before after (getD (c .transistors) i noTransistor)) q)
 
 -- what is stored at rest is what is stored by the entries
 pub rest-stored : {net l w h ix : List ℕ} {used : ℕ} (cell : Net net) → Open (at net lettersPlace) l w h ix used → {before after pending : List ℕ}
@@ -143,9 +150,8 @@ pub rest-stored : {net l w h ix : List ℕ} {used : ℕ} (cell : Net net) → Op
     → {l1 w1 h1 ix1 : List ℕ} {full : Bool} {most : ℕ} {out : List ℕ}
     → OutcomeAll (tableOf (columns l w h) used) (storeAll (at net lettersPlace) (map (restOf (netCircuit net) time (at net lettersPlace) (tableOf (columns l w h) used) pending) (nodeNumbers (netCircuit net))) (tableOf (columns l w h) used)) l1 w1 h1 ix1 full most out
     → OutcomeAll (tableOf (columns l w h) used) (storeAll (at net lettersPlace) (map (changeOf (netCircuit net) time all (at net lettersPlace) (tableOf (columns l w h) used) before after pending) (nodeNumbers (netCircuit net))) (tableOf (columns l w h) used)) l1 w1 h1 ix1 full most out
-rest-stored {net} {l} {w} {h} {used = used} cell o {before} {after} {pending} e time off quiet {l1} {w1} {h1} {ix1} {full} {most} {out} =
+rest-stored {net} {l} {w} {h} {used = used} cell o {before} {after} {pending} e time {all} off quiet {l1} {w1} {h1} {ix1} {full} {most} {out} =
     let t : Table = tableOf (columns l w h) used in
-    rw off
-    (subst (λ (s : StoredAll). OutcomeAll t s l1 w1 h1 ix1 full most out)
-    (nodes-stored (at net lettersPlace) (restOf (netCircuit net) time (at net lettersPlace) t pending) (changeOf (netCircuit net) time false (at net lettersPlace) t before after pending) (length (netCircuit net .nodes)) t
-    (λ n p least less q. rest-change cell e time n p quiet)))
+    subst (λ (s : StoredAll). OutcomeAll t s l1 w1 h1 ix1 full most out)
+    (nodes-stored (at net lettersPlace) (restOf (netCircuit net) time (at net lettersPlace) t pending) (changeOf (netCircuit net) time all (at net lettersPlace) t before after pending) (length (netCircuit net .nodes)) t
+    (λ n p least less q. rest-change cell e time n p all (λ _. (off, none-for (netCircuit net) before after n quiet))))

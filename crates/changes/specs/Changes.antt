@@ -2,7 +2,7 @@
 use mathlib.Core.Path.{_≡_}
 use mathlib.Core.List.{List, [], _∷_, _++_}
 use mathlib.Core.Bool.{Bool, cond}
-use Prim.Native.Nat.{ℕ, _<_, _≤_}
+use Prim.Native.Nat.{ℕ, suc, _<_, _≤_}
 use lib.ListN.{length, getD}
 use Rattle.lists.specs.Padded.{padded}
 use Rattle.format.specs.Circuit.{Circuit}
@@ -10,6 +10,7 @@ use Rattle.diagram.specs.Pattern.{patterns}
 use Rattle.diagram.specs.Table.{Table, never, numberAt}
 use Rattle.rules.specs.State.{isInner}
 use Rattle.attempt.specs.Change.{numbersLength, changeBy}
+use Rattle.record.specs.Leasts.{Leasts}
 
 -- the entries by which a node with a pending change is evaluated
 abbrev pub entriesWith : List ℕ → List ℕ → ℕ → List ℕ
@@ -39,3 +40,7 @@ pub record ValueEntries (letters : ℕ) (t : Table) (used : ℕ) (entries : List
 pub record PendingEntries (used : ℕ) (entries : List ℕ) : Type 0 where
   pub long : length entries ≡ 26
   pub within : (j : ℕ) → j < 26 → getD entries j 0 < used
+
+-- the least numbers of the pending changes, and of all entries before them
+abbrev pub PendingLeasts : ℕ → Table → List ℕ → List ℕ → Type 0
+PendingLeasts letters t pending least = (j : ℕ) → j < 26 → Leasts letters t (suc (getD pending j 0)) least

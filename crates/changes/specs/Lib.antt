@@ -1,3 +1,4 @@
 pub mod Changes
 pub mod ByRoots
 pub mod Rest
+pub mod Mixed

@@ -1,18 +1,23 @@
--- The next changes of all nodes where nothing was stirred: the pending ones with T taken out.
+-- What a step stirs, and the next changes where it stirs nothing: the pending ones with T taken out.
 use mathlib.Core.List.{List}
-use mathlib.Core.Bool.{Bool, cond}
+use mathlib.Core.Bool.{Bool, _&&_, cond}
 use Prim.Native.Nat.{ℕ}
 use lib.ListN.{getD}
+use Rattle.format.specs.declared.Transistor.{Transistor}
 use Rattle.format.specs.Circuit.{Circuit}
 use Rattle.diagram.specs.Table.{Table, never, numberAt}
 use Rattle.rules.specs.State.{isInner}
-use Rattle.rules.specs.Group.{some}
+use Rattle.rules.specs.Group.{ofGroup, some}
 use Rattle.plain.specs.Shown.{disturbedAt}
 use Rattle.descent.specs.Settle.{pendingAfter}
 
 -- some transistor has a gate, or an input at a channel end, whose entries before and after T differ
 abbrev pub stirredBy : Circuit → List ℕ → List ℕ → Bool
 stirredBy c before after = some (disturbedAt c before after) (c .transistors)
+
+-- some transistor of node n's group has
+abbrev pub stirredFor : Circuit → List ℕ → List ℕ → ℕ → Bool
+stirredFor c before after n = some (λ (t : Transistor). ofGroup c n t && disturbedAt c before after t) (c .transistors)
 
 -- entry e at a pattern, with T taken out
 abbrev pub pastOf : ℕ → ℕ → Table → ℕ → ℕ → ℕ

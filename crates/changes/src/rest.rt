@@ -6,9 +6,8 @@ use functions::step::join;
 use net::inner::is_inner;
 use table::Put;
 use values::Many;
-use values::due::meets;
 ghost use mathlib.Core.List.{map};
-ghost use Prim.Native.Nat.{_<_};
+ghost use Prim.Native.Nat.{suc, _<_};
 ghost use Rattle.diagram.specs.Store.{store};
 ghost use Rattle.diagram.specs.Call.{tableOf};
 ghost use Rattle.table.specs.Holds.{columns, Outcome};
@@ -17,11 +16,12 @@ ghost use Rattle.rules.specs.State.{nodeNumbers};
 ghost use Rattle.rules.specs.Run.{storeAll};
 ghost use Rattle.net.specs.Net.{lettersPlace, at as atPlace, netCircuit};
 ghost use Rattle.walk.specs.Ready.{Net, Noded};
+ghost use Rattle.record.specs.Leasts.{Leasts};
 ghost use Rattle.values.specs.All.{OutcomeAll};
-ghost use Rattle.changes.specs.Changes.{PendingEntries};
+ghost use Rattle.changes.specs.Changes.{PendingEntries, PendingLeasts};
 ghost use Rattle.changes.specs.Rest.{pastOf, restWith, restOf};
 
-// Entry `e`, whose letters are among the last `left` of the k, with T taken out.
+// Entry `e`, whose letters are among the last `left` of the k, with T taken out: itself where all its numbers are later.
 fn past(
     letter: &mut [u32],
     low: &mut [u32],
@@ -32,11 +32,20 @@ fn past(
     time: u32,
     e: u32,
     left: u32,
+    least: &[u32],
 ) -> Put
-    requires { ⌜ Open k (now letter) (now low) (now high) (now index) used × Operand k (tableOf (columns (now letter) (now low) (now high)) used) used left e ⌝ }
+    requires { ⌜ Open k (now letter) (now low) (now high) (now index) used × Operand k (tableOf (columns (now letter) (now low) (now high)) used) used left e × Leasts k (tableOf (columns (now letter) (now low) (now high)) used) (suc e) (now least) ⌝ }
     ensures { λ r. ⌜ Outcome (tableOf (columns (now (letter .entry)) (now (low .entry)) (now (high .entry))) used) (store k 0 (pastOf time k (tableOf (columns (now (letter .entry)) (now (low .entry)) (now (high .entry))) used) e) (tableOf (columns (now (letter .entry)) (now (low .entry)) (now (high .entry))) used)) (now (letter .exit)) (now (low .exit)) (now (high .exit)) (now (index .exit)) r ⌝ }
 {
     let i = e as usize;
+    let first = least[i];
+    if time < first {
+        return Put {
+            full: false,
+            entry: e,
+            used,
+        };
+    }
     let m = letter[i];
     let a = low[i];
     let b = high[i];
@@ -44,43 +53,30 @@ fn past(
         let v = pending_after(time, a);
         return table::add(letter, low, high, index, used, TERMINAL, v, 0);
     }
-    let p = past(letter, low, high, index, used, k, time, a, left - 1);
+    let p = past(letter, low, high, index, used, k, time, a, left - 1, least);
     if p.full {
         return p;
     }
-    let q = past(letter, low, high, index, p.used, k, time, b, left - 1);
+    let q = past(
+        letter,
+        low,
+        high,
+        index,
+        p.used,
+        k,
+        time,
+        b,
+        left - 1,
+        least,
+    );
     if q.full {
         return q;
     }
     join(letter, low, high, index, q.used, m, p.entry, q.entry)
 }
 
-// Entry `e` with T taken out: itself where it has T at no pattern.
-fn passed(
-    letter: &mut [u32],
-    low: &mut [u32],
-    high: &mut [u32],
-    index: &mut [u32],
-    used: u32,
-    k: u32,
-    time: u32,
-    e: u32,
-) -> Put
-    requires { ⌜ Open k (now letter) (now low) (now high) (now index) used × (e < used) ⌝ }
-    ensures { λ r. ⌜ Outcome (tableOf (columns (now (letter .entry)) (now (low .entry)) (now (high .entry))) used) (store k 0 (pastOf time k (tableOf (columns (now (letter .entry)) (now (low .entry)) (now (high .entry))) used) e) (tableOf (columns (now (letter .entry)) (now (low .entry)) (now (high .entry))) used)) (now (letter .exit)) (now (low .exit)) (now (high .exit)) (now (index .exit)) r ⌝ }
-{
-    if !meets(letter, low, high, used, k, e, time) {
-        return Put {
-            full: false,
-            entry: e,
-            used,
-        };
-    }
-    past(letter, low, high, index, used, k, time, e, k)
-}
-
 // The next change of node n by pending change `e`.
-fn at_rest(
+pub fn at_rest(
     net: &[u32],
     letter: &mut [u32],
     low: &mut [u32],
@@ -90,8 +86,9 @@ fn at_rest(
     time: u32,
     n: u32,
     e: u32,
+    least: &[u32],
 ) -> Put
-    requires { ⌜ Net (now net) × Noded (now net) n × Open (atPlace (now net) lettersPlace) (now letter) (now low) (now high) (now index) used × (e < used) ⌝ }
+    requires { ⌜ Net (now net) × Noded (now net) n × Open (atPlace (now net) lettersPlace) (now letter) (now low) (now high) (now index) used × (e < used) × Leasts (atPlace (now net) lettersPlace) (tableOf (columns (now letter) (now low) (now high)) used) (suc e) (now least) ⌝ }
     ensures { λ r. ⌜ Outcome (tableOf (columns (now (letter .entry)) (now (low .entry)) (now (high .entry))) used) (store (atPlace (now (net .entry)) lettersPlace) 0 (restWith (netCircuit (now (net .entry))) time (atPlace (now (net .entry)) lettersPlace) (tableOf (columns (now (letter .entry)) (now (low .entry)) (now (high .entry))) used) e n) (tableOf (columns (now (letter .entry)) (now (low .entry)) (now (high .entry))) used)) (now (letter .exit)) (now (low .exit)) (now (high .exit)) (now (index .exit)) r ⌝ }
 {
     if !is_inner(net, n) {
@@ -102,7 +99,7 @@ fn at_rest(
         };
     }
     let k = net[net::LETTERS];
-    passed(letter, low, high, index, used, k, time, e)
+    past(letter, low, high, index, used, k, time, e, k, least)
 }
 
 // All next changes, in node order.
@@ -115,8 +112,9 @@ pub fn all_at_rest(
     used: u32,
     time: u32,
     pending: [u32; 26],
+    least: &[u32],
 ) -> Many
-    requires { ⌜ Net (now net) × Open (atPlace (now net) lettersPlace) (now letter) (now low) (now high) (now index) used × PendingEntries used pending ⌝ }
+    requires { ⌜ Net (now net) × Open (atPlace (now net) lettersPlace) (now letter) (now low) (now high) (now index) used × PendingEntries used pending × PendingLeasts (atPlace (now net) lettersPlace) (tableOf (columns (now letter) (now low) (now high)) used) pending (now least) ⌝ }
     ensures { λ r. ⌜ OutcomeAll (tableOf (columns (now (letter .entry)) (now (low .entry)) (now (high .entry))) used) (storeAll (atPlace (now (net .entry)) lettersPlace) (map (restOf (netCircuit (now (net .entry))) time (atPlace (now (net .entry)) lettersPlace) (tableOf (columns (now (letter .entry)) (now (low .entry)) (now (high .entry))) used) pending) (nodeNumbers (netCircuit (now (net .entry))))) (tableOf (columns (now (letter .entry)) (now (low .entry)) (now (high .entry))) used)) (now (letter .exit)) (now (low .exit)) (now (high .exit)) (now (index .exit)) (r .full) (r .used) (r .entries) ⌝ }
 {
     let count = net[net::NODES] as usize;
@@ -134,6 +132,7 @@ pub fn all_at_rest(
             time,
             i as u32 + 2,
             pending[i + 2],
+            least,
         );
         if p.full {
             return Many {

@@ -1,11 +1,13 @@
-// Next changes by the roots of a step in the working columns.
+// Next changes by the roots of a step in the working columns, and at rest for the nodes that it stirs nothing for.
 use crate::NEVER;
+use crate::rest::at_rest;
 use attempt::roots_for;
 use descent::descend::descend;
 use net::inner::is_inner;
 use table::Put;
 use values::Many;
 ghost use mathlib.Core.List.{map};
+ghost use Prim.Native.Nat.{suc, _<_};
 ghost use Rattle.diagram.specs.Store.{store};
 ghost use Rattle.diagram.specs.Call.{tableOf};
 ghost use Rattle.table.specs.Holds.{columns, Outcome};
@@ -14,8 +16,11 @@ ghost use Rattle.rules.specs.State.{nodeNumbers};
 ghost use Rattle.rules.specs.Run.{storeAll};
 ghost use Rattle.net.specs.Net.{lettersPlace, at as atPlace, netCircuit};
 ghost use Rattle.walk.specs.Ready.{Noded};
+ghost use Rattle.record.specs.Leasts.{Leasts};
 ghost use Rattle.values.specs.All.{OutcomeAll};
+ghost use Rattle.changes.specs.Changes.{PendingEntries, PendingLeasts};
 ghost use Rattle.changes.specs.ByRoots.{settledFor, StepRoots};
+ghost use Rattle.changes.specs.Mixed.{mixedWith, mixedOf};
 
 // The next change of node n.
 fn by_roots(
@@ -64,8 +69,50 @@ fn by_roots(
     )
 }
 
-// All next changes, in node order.
-pub fn all_by_roots(
+// The next change of node n by its mark and its pending change `e`: at rest without a mark.
+fn by_mark(
+    net: &[u32],
+    wletter: &[u32],
+    wlow: &[u32],
+    whigh: &[u32],
+    wused: u32,
+    letter: &mut [u32],
+    low: &mut [u32],
+    high: &mut [u32],
+    index: &mut [u32],
+    used: u32,
+    time: u32,
+    n: u32,
+    roots: [u32; 142],
+    mark: u32,
+    e: u32,
+    least: &[u32],
+) -> Put
+    requires { ⌜ StepRoots (now net) (now wletter) (now wlow) (now whigh) wused roots × Noded (now net) n × Open (atPlace (now net) lettersPlace) (now letter) (now low) (now high) (now index) used × (e < used) × Leasts (atPlace (now net) lettersPlace) (tableOf (columns (now letter) (now low) (now high)) used) (suc e) (now least) ⌝ }
+    ensures { λ r. ⌜ Outcome (tableOf (columns (now (letter .entry)) (now (low .entry)) (now (high .entry))) used) (store (atPlace (now (net .entry)) lettersPlace) 0 (mixedWith (netCircuit (now (net .entry))) time (atPlace (now (net .entry)) lettersPlace) (tableOf (columns (now (letter .entry)) (now (low .entry)) (now (high .entry))) used) (tableOf (columns (now (wletter .entry)) (now (wlow .entry)) (now (whigh .entry))) wused) roots mark e n) (tableOf (columns (now (letter .entry)) (now (low .entry)) (now (high .entry))) used)) (now (letter .exit)) (now (low .exit)) (now (high .exit)) (now (index .exit)) r ⌝ }
+{
+    if mark == 0 {
+        return at_rest(net, letter, low, high, index, used, time, n, e, least);
+    }
+    by_roots(
+        net,
+        wletter,
+        wlow,
+        whigh,
+        wused,
+        letter,
+        low,
+        high,
+        index,
+        used,
+        time,
+        n,
+        roots,
+    )
+}
+
+// All next changes by the marks of the nodes, in node order.
+pub fn all_by_marks(
     net: &[u32],
     wletter: &[u32],
     wlow: &[u32],
@@ -78,16 +125,19 @@ pub fn all_by_roots(
     used: u32,
     time: u32,
     roots: [u32; 142],
+    marks: [u32; 26],
+    pending: [u32; 26],
+    least: &[u32],
 ) -> Many
-    requires { ⌜ StepRoots (now net) (now wletter) (now wlow) (now whigh) wused roots × Open (atPlace (now net) lettersPlace) (now letter) (now low) (now high) (now index) used ⌝ }
-    ensures { λ r. ⌜ OutcomeAll (tableOf (columns (now (letter .entry)) (now (low .entry)) (now (high .entry))) used) (storeAll (atPlace (now (net .entry)) lettersPlace) (map (settledFor (netCircuit (now (net .entry))) time (atPlace (now (net .entry)) lettersPlace) (tableOf (columns (now (wletter .entry)) (now (wlow .entry)) (now (whigh .entry))) wused) roots) (nodeNumbers (netCircuit (now (net .entry))))) (tableOf (columns (now (letter .entry)) (now (low .entry)) (now (high .entry))) used)) (now (letter .exit)) (now (low .exit)) (now (high .exit)) (now (index .exit)) (r .full) (r .used) (r .entries) ⌝ }
+    requires { ⌜ StepRoots (now net) (now wletter) (now wlow) (now whigh) wused roots × Open (atPlace (now net) lettersPlace) (now letter) (now low) (now high) (now index) used × PendingEntries used pending × PendingLeasts (atPlace (now net) lettersPlace) (tableOf (columns (now letter) (now low) (now high)) used) pending (now least) ⌝ }
+    ensures { λ r. ⌜ OutcomeAll (tableOf (columns (now (letter .entry)) (now (low .entry)) (now (high .entry))) used) (storeAll (atPlace (now (net .entry)) lettersPlace) (map (mixedOf (netCircuit (now (net .entry))) time (atPlace (now (net .entry)) lettersPlace) (tableOf (columns (now (letter .entry)) (now (low .entry)) (now (high .entry))) used) (tableOf (columns (now (wletter .entry)) (now (wlow .entry)) (now (whigh .entry))) wused) roots marks pending) (nodeNumbers (netCircuit (now (net .entry))))) (tableOf (columns (now (letter .entry)) (now (low .entry)) (now (high .entry))) used)) (now (letter .exit)) (now (low .exit)) (now (high .exit)) (now (index .exit)) (r .full) (r .used) (r .entries) ⌝ }
 {
     let count = net[net::NODES] as usize;
     let mut out = [0u32; 24];
     let mut now = used;
     let mut i = 0;
     while i < count {
-        let p = by_roots(
+        let p = by_mark(
             net,
             wletter,
             wlow,
@@ -101,6 +151,9 @@ pub fn all_by_roots(
             time,
             i as u32 + 2,
             roots,
+            marks[i + 2],
+            pending[i + 2],
+            least,
         );
         if p.full {
             return Many {

@@ -24,10 +24,12 @@ use Rattle.rules.proofs.Step.{initial-change, started-value, started-bits, step
 use Rattle.rules.proofs.Moment.{States, RunSound, sound-states, storedValues}
 use Rattle.record.specs.declared.Run.{Run}
 use Rattle.record.specs.Record.{runOf}
+use Rattle.record.specs.Leasts.{Leasts}
+use Rattle.record.proofs.Leasts.{leasts-less, leasts-same, leasts-three}
 use Rattle.values.specs.All.{OutcomeAll}
-use Rattle.changes.specs.Changes.{changeOf, ValueEntries, PendingEntries}
+use Rattle.changes.specs.Changes.{changeOf, ValueEntries, PendingEntries, PendingLeasts}
 use Rattle.moment.specs.ByNode.{ByNode}
-use Rattle.moment.proofs.Storing.{Numbering, placed-numbering, values-placed, changes-placed, step-change, start-change}
+use Rattle.moment.proofs.Storing.{Numbering, placed-numbering, placed-within, values-placed, changes-placed, step-change, start-change}
 use Rattle.moment.proofs.Moments.{mid-sound, mid-extends, mid-long, mid-within, mid-number}
 
 -- the entries of a sound run in an extension of its table
@@ -112,6 +114,12 @@ module _ (c : Circuit) (nodes : length (c .nodes) ≤ 24) (few : c .letters ≤ 
       rw lu at (changes-placed c u su g (change-in c few t s r rs u xu)),
     )
 
+    -- the least numbers of the run's table are those of its next changes
+    pub step-leasts : {least : List ℕ} → Leasts (c .letters) t (length t) least → PendingLeasts (c .letters) (tableOf (columns l w h) used) op least
+    step-leasts z j i =
+        let small : getD op j 0 < length t = placed-within c g (length t) (omega (arith, s .three)) (omega (arith, s .three)) (change-old c few t s r rs u xu) j in
+        leasts-same (leasts-less z (omega arith)) (λ e p k. numberAt-extends e p few s xu (omega arith))
+
     pub step-functions : (n : ℕ) → Numbered c n → (p : ℕ) → p < patterns (c .letters) → changeOf c time false (c .letters) (tableOf (columns l w h) used) ob oa op n p ≡ changeAt (after c time t r p) n
     step-functions =
         step-change c u ob oa op nodes (b .long) (a .long) time (r .time) (stateOf c t (runOf c r)) (states .shaped) (states .pending) befores
@@ -148,6 +156,11 @@ module _ (c : Circuit) (nodes : length (c .nodes) ≤ 24) (few : c .letters ≤ 
         let both : ValueEntries (c .letters) v (length v) oa = values-placed c v first-sound few _ a (mid-within c 0 (started c) t few s o fits) firsts (λ m k p i. started-bits c p .bit m k) in
         let e : PendingEntries (length v) (replicate 26 2) = record { long = refl; within = λ j i. omega (arith, nothing j i, first-sound .three) } in
         (rw first-long at both, rw first-long at both, rw first-long at e)
+
+    -- the first three entries are 0, 1 and never at every pattern
+    pub start-leasts : {least : List ℕ} → length least ≡ 3 → getD least 0 0 ≡ 0 → getD least 1 0 ≡ 1 → getD least 2 0 ≡ never
+        → PendingLeasts (c .letters) (tableOf (columns l w h) used) (replicate 26 2) least
+    start-leasts long ground supply rest j i = leasts-less (leasts-three few first-sound _ (omega arith) ground supply rest) (omega (arith, nothing j i))
 
     pub start-functions : (n : ℕ) → Numbered c n → (p : ℕ) → p < patterns (c .letters)
         → changeOf c 0 true (c .letters) (tableOf (columns l w h) used) oa oa (replicate 26 2) n p ≡ changeAt (started c p) n

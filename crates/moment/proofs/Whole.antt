@@ -4,15 +4,15 @@ use mathlib.Core.List.{List, map}
 use mathlib.Core.Bool.{Bool, true, false}
 use Prim.Native.Nat.{ℕ, _≤_, _<_}
 use native.Mathlib.Omega.{arith}
-use lib.ListN.{length, replicate}
+use lib.ListN.{length, getD, replicate}
 use Rattle.format.specs.Circuit.{Circuit}
 use Rattle.diagram.specs.Pattern.{mostLetters, patterns}
-use Rattle.diagram.specs.Table.{Table}
+use Rattle.diagram.specs.Table.{Table, never}
 use Rattle.diagram.specs.Call.{tableOf}
 use Rattle.diagram.proofs.Sound.{Sound}
 use Rattle.table.specs.Holds.{columns}
 use Rattle.functions.specs.Open.{Open}
-use Rattle.functions.proofs.Carry.{legible-sound}
+use Rattle.functions.proofs.Carry.{legible-sound, legible-long}
 use Rattle.rules.specs.State.{valueAt, changeAt, nodeNumbers}
 use Rattle.rules.specs.Step.{stepped, started}
 use Rattle.rules.specs.Run.{stateOf, storeAll, momentOf, startMoment, timeAfter, stepMoment, runSound}
@@ -23,13 +23,14 @@ use Rattle.net.specs.Net.{nodesPlace, lettersPlace, at, netCircuit}
 use Rattle.net.specs.Laid.{Laid}
 use Rattle.record.specs.declared.Run.{Run}
 use Rattle.record.specs.Record.{runOf}
+use Rattle.record.specs.Leasts.{Leasts}
 use Rattle.record.proofs.Net.{nodes-count}
 use Rattle.values.specs.All.{OutcomeAll}
-use Rattle.changes.specs.Changes.{changeOf, ValueEntries, PendingEntries}
+use Rattle.changes.specs.Changes.{changeOf, ValueEntries, PendingEntries, PendingLeasts}
 use Rattle.moment.specs.ByNode.{ByNode, Gathers}
 use Rattle.moment.specs.Next.{NextAs}
 use Rattle.moment.proofs.Moments.{values-over, mid-open, mid-next}
-use Rattle.moment.proofs.Entries.{after, step-entries, step-functions, start-entries, start-functions}
+use Rattle.moment.proofs.Entries.{after, step-entries, step-leasts, step-functions, start-entries, start-leasts, start-functions}
 
 -- the letters of the cell
 letters-are : (net : List ℕ) → netCircuit net .letters ≡ at net lettersPlace
@@ -83,6 +84,11 @@ module _ {net l w h ix : List ℕ} {old : ℕ} (k : Laid (netCircuit net) net) (
           let u : Table = tableOf (columns l₁ w₁ h₁) used in
           subst (λ (m : ℕ). ValueEntries m u used oa × ValueEntries m u used oa × PendingEntries used (replicate 26 2)) (letters-are net) (start-entries c nodes few t sound firsts fits (by-count net a))
 
+      pub start-pending : {least : List ℕ} → length least ≡ 3 → getD least 0 0 ≡ 0 → getD least 1 0 ≡ 1 → getD least 2 0 ≡ never
+          → PendingLeasts (at net lettersPlace) (tableOf (columns l₁ w₁ h₁) used) (replicate 26 2) least
+      start-pending {least} long ground supply rest =
+          subst (λ (m : ℕ). PendingLeasts m (tableOf (columns l₁ w₁ h₁) used) (replicate 26 2) least) (letters-are net) (start-leasts c nodes few t sound firsts fits (by-count net a) long ground supply rest)
+
       -- and its next changes
       pub start-next : {l₂ w₂ h₂ ix₂ : List ℕ} {full₂ : Bool} {used₂ : ℕ} {entries₂ : List ℕ} {none : Bool} {r : Run}
           → OutcomeAll (tableOf (columns l₁ w₁ h₁) used) (storeAll (at net lettersPlace) (map (changeOf (netCircuit net) 0 true (at net lettersPlace) (tableOf (columns l₁ w₁ h₁) used) oa oa (replicate 26 2)) (nodeNumbers (netCircuit net))) (tableOf (columns l₁ w₁ h₁) used)) l₂ w₂ h₂ ix₂ full₂ used₂ entries₂
@@ -133,6 +139,13 @@ module _ {net l w h ix : List ℕ} (r : Run) (k : Laid (netCircuit net) net) (io
           let u : Table = tableOf (columns l₁ w₁ h₁) used in
           subst (λ (m : ℕ). ValueEntries m u used ob × ValueEntries m u used oa × PendingEntries used op) (letters-are net)
           (step-entries d (nodes k io) (few k io) v (sound k io) r facts time values fits (by-count net b) (by-count net a) (by-count net g))
+
+      pub step-pending : {least : List ℕ} → Leasts (at net lettersPlace) (tableOf (columns l w h) (r .used)) (r .used) least → PendingLeasts (at net lettersPlace) (tableOf (columns l₁ w₁ h₁) used) op least
+      step-pending {least} z =
+          let whole : Leasts (at net lettersPlace) v (length v) least = rw (legible-long (io .legible)) z in
+          subst (λ (m : ℕ). PendingLeasts m (tableOf (columns l₁ w₁ h₁) used) op least) (letters-are net)
+          (step-leasts d (nodes k io) (few k io) v (sound k io) r facts time values fits (by-count net b) (by-count net a) (by-count net g)
+          (subst (λ (m : ℕ). Leasts m v (length v) least) (sym (letters-are net)) whole))
 
       -- and its next changes
       pub step-next : {l₂ w₂ h₂ ix₂ : List ℕ} {full₂ : Bool} {used₂ : ℕ} {entries₂ : List ℕ} {none : Bool} {x : Run}

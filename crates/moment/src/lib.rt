@@ -2,6 +2,7 @@
 // Promise: the run and the table afterwards are `startMoment` and `stepMoment` of the definitions; full where they do not fit.
 // Internal to our crates: a call refuses first, and shows what is required here.
 use changes::changes;
+use functions::numbers::NEVER;
 use record::Run;
 use values::Many;
 use values::arrive::arrive;
@@ -15,6 +16,7 @@ ghost use Rattle.functions.specs.Open.{Open};
 ghost use Rattle.rules.specs.Run.{startMoment, timeAfter, stepMoment, runSound};
 ghost use Rattle.rules.specs.Call.{momentGiven};
 ghost use Rattle.record.specs.Record.{runOf};
+ghost use Rattle.record.specs.Leasts.{Leasts};
 ghost use Rattle.net.specs.Net.{lettersPlace, at as atPlace, netCircuit};
 ghost use Rattle.net.specs.Laid.{Laid};
 ghost use Rattle.moment.specs.ByNode.{ByNode, Gathers};
@@ -98,6 +100,9 @@ pub fn start(
     let count = net[net::NODES] as usize;
     let values = v.entries;
     let now = by_number(0, 1, values, count);
+    let mut least = [0u32; 3];
+    least[1] = 1;
+    least[2] = NEVER;
     let c = changes(
         net,
         letter,
@@ -114,11 +119,12 @@ pub fn start(
         now,
         now,
         [2u32; 26],
+        &least,
     );
     gathered(0, values, c)
 }
 
-// A step to T: all of T happens, then the next changes.
+// A step to T: all of T happens, then the next changes. `least` has the least numbers of the run's entries.
 pub fn step(
     net: &[u32],
     letter: &mut [u32],
@@ -131,12 +137,13 @@ pub fn step(
     whigh: &mut [u32],
     windex: &mut [u32],
     time: u32,
+    least: &[u32],
 ) -> Next
     requires { ⌜ Laid (netCircuit (now net)) (now net) × Open (atPlace (now net) lettersPlace) (now letter) (now low) (now high) (now index) (r .used) × Sized (now wletter) (now wlow) (now whigh) (now windex) ⌝ }
-    requires { ⌜ (runSound (netCircuit (now net)) (tableOf (columns (now letter) (now low) (now high)) (r .used)) (runOf (netCircuit (now net)) r) ≡ true) × (time ≡ timeAfter (netCircuit (now net)) (momentGiven (columns (now letter) (now low) (now high)) (runOf (netCircuit (now net)) r))) ⌝ }
+    requires { ⌜ (runSound (netCircuit (now net)) (tableOf (columns (now letter) (now low) (now high)) (r .used)) (runOf (netCircuit (now net)) r) ≡ true) × (time ≡ timeAfter (netCircuit (now net)) (momentGiven (columns (now letter) (now low) (now high)) (runOf (netCircuit (now net)) r))) × Leasts (atPlace (now net) lettersPlace) (tableOf (columns (now letter) (now low) (now high)) (r .used)) (r .used) (now least) ⌝ }
     ensures { λ x. ⌜ NextAs (tableOf (columns (now (letter .entry)) (now (low .entry)) (now (high .entry))) (r .used)) (stepMoment (netCircuit (now (net .entry))) (momentGiven (columns (now (letter .entry)) (now (low .entry)) (now (high .entry))) (runOf (netCircuit (now (net .entry))) r))) (now (letter .exit)) (now (low .exit)) (now (high .exit)) (now (index .exit)) (x .full) (x .run) ⌝ }
 {
-    let v = arrive(net, letter, low, high, index, r, time);
+    let v = arrive(net, letter, low, high, index, r, time, least);
     if v.full {
         return no_room();
     }
@@ -160,6 +167,7 @@ pub fn step(
         by_number(0, 1, old, count),
         by_number(0, 1, new, count),
         by_number(2, 2, waiting, count),
+        least,
     );
     gathered(time, new, c)
 }

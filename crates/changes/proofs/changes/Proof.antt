@@ -1,10 +1,10 @@
 -- `changes` meets its contract: at rest where nothing is stirred, else reconsidered. Assumes nothing.
-use borrow.Author.Needs.{needs}
 use borrow.Author.Tests.{not-true}
 use mathlib.Core.Path.{sym, _∙_}
 use mathlib.Core.Bool.{not}
 use Rattle.lists.proofs.Cases.{and-left, and-right}
 use Rattle.changes.proofs.Stirring.{rest-stored}
+use borrow.Author.Needs.{needs}
 use Rattle.changes.proofs.changes.Statement.{statement}
 use Rattle.changes.proofs.changes.Tie as tie
 
@@ -18,7 +18,7 @@ stirred-requires : tie.Need-stirred-requires
 stirred-requires c κs = search needs
 
 all-at-rest-requires : tie.Need-all-at-rest-requires
-all-at-rest-requires c κs = search needs
+all-at-rest-requires c κs = let s = c .before .before .before .before .before .before .before .before .before .before .before .before .before .before .before .before .before .before in (s .pre .0 .0, s .pre .0 .1, s .pre .1 .2, s .pre .1 .3)
 
 same-length : tie.Need-same-length
 same-length c = search needs
@@ -33,14 +33,13 @@ same-length-4 : tie.Need-same-length-4
 same-length-4 c = search needs
 
 returns : tie.Need-returns
-returns c =
-    let s = c .before .before .before .before .before .before .before .before .before .before .before .before .before .before .before .before .before .before .before .before .before .before .before .before .before .before in
+returns c = let s = c .before .before .before .before .before .before .before .before .before .before .before .before .before .before .before .before .before .before .before .before .before .before .before .before .before .before .before in
     let found = c .before .before .before .before .before .before .before .before .before .before .before .before .before .before .stirred in
     let test = c .before .before .before .before .before .before .before .before .before .before .before .before .before .if1 .taken in
     rest-stored (s .pre .0 .0) (s .pre .0 .1) (record { first = s .pre .1 .0; second = s .pre .1 .1; third = s .pre .1 .2 }) (s .args .time) (not-true (s .args .all) (and-left (not (s .args .all)) (not (found .result)) test)) (sym (found .ensures) ∙ not-true (found .result) (and-right (not (s .args .all)) (not (found .result)) test)) (c .before .before .before .before .before .before .before .before .all-at-rest .ensures)
 
 reconsider-requires : tie.Need-reconsider-requires
-reconsider-requires c κs = search needs
+reconsider-requires c κs = let s = c .before .before .before .before .before .before .before .before .before .before .before .before .before .before .before .before .before .before .before .before .before .before in (s .pre .0, s .pre .1)
 
 same-length-5 : tie.Need-same-length-5
 same-length-5 c = search needs

@@ -1,22 +1,20 @@
--- `steps` meets its contract. The loop's invariant: what is left to run from here is what was asked at first (`Going`); the lengths are
--- as they were. The measure is what is left of the horizon. Assumes nothing.
-use mathlib.Core.Path.{_≡_, refl, _∙_}
-use Prim.Native.Nat.{_-_}
+-- `steps` meets its contract. The loop's invariant: what is left to run from here is what was asked at first, and the column has every
+-- entry's least number (`Going`); the lengths are as they were. The measure is what is left of the horizon. Assumes nothing.
+use borrow.Author.Needs.{needs}
+use mathlib.Core.Path.{_≡_, refl, sym, _∙_}
+use Prim.Native.Nat.{ℕ, _-_}
 use native.Mathlib.Omega.{arith}
-use lib.ListN.{length}
+use lib.ListN.{length, replicate, length-replicate}
 use Rattle.table.specs.Holds.{Sized}
 use Rattle.net.specs.Net.{horizonPlace, at as atPlace}
-use Rattle.advance.proofs.Moving.{Going, sized-same, tidy-standing, tidy-whole, tidy-reached, going-start, going-takes, going-rests, going-full, going-next, step-standing, step-later}
+use Rattle.record.proofs.Leasts.{leasts-none}
+use Rattle.advance.proofs.Moving.{Going, sized-same, open-room, tidy-standing, tidy-whole, tidy-reached, going-start, going-takes, going-rests, going-full, going-next, step-standing, step-more, step-leasts, step-later}
 use Rattle.advance.proofs.steps.steps.Statement.{statement}
 use Rattle.advance.proofs.steps.steps.Tie as tie
 
--- as they were. The measure is what is left of the horizon. Assumes nothing.
-
--- as they were. The measure is what is left of the horizon. Assumes nothing.
-
 abbrev Inv-loop : tie.InvT-loop
-Inv-loop net letter₀ low₀ high₀ index₀ wletter₀ wlow₀ whigh₀ windex₀ until now₀ time₀ letter low high index wletter wlow whigh windex now time =
-    Going net until letter₀ low₀ high₀ now₀ letter low high index now time
+Inv-loop net letter₀ low₀ high₀ index₀ wletter₀ wlow₀ whigh₀ windex₀ until now₀ least₀ time₀ letter low high index wletter wlow whigh windex now least time =
+    Going net until letter₀ low₀ high₀ now₀ letter low high index now time least
     × Sized wletter wlow whigh windex
     × (length letter ≡ length letter₀)
     × (length low ≡ length low₀)
@@ -28,76 +26,88 @@ Inv-loop net letter₀ low₀ high₀ index₀ wletter₀ wlow₀ whigh₀ winde
     × (length windex ≡ length windex₀)
 
 abbrev μ-loop : tie.MeasureT-loop
-μ-loop net letter₀ low₀ high₀ index₀ wletter₀ wlow₀ whigh₀ windex₀ until now₀ time₀ letter low high index wletter wlow whigh windex now time = atPlace net horizonPlace - now .time
+μ-loop net letter₀ low₀ high₀ index₀ wletter₀ wlow₀ whigh₀ windex₀ until now₀ least₀ time₀ letter low high index wletter wlow whigh windex now least time = atPlace net horizonPlace - now .time
 
 tidy-requires : tie.Need-tidy-requires Inv-loop μ-loop
 tidy-requires c κs = c .before .before .before .before .before .before .before .before .before .pre .0 .0
 
+slice-aggregate-time-after : tie.Need-slice-aggregate-time-after Inv-loop μ-loop
+slice-aggregate-time-after c = search needs
+
 time-after-requires : tie.Need-time-after-requires Inv-loop μ-loop
 time-after-requires c κs =
-    let s = c .before .before .before .before .before .before .before .before .before .before .before .before .before in
-    let t = tidy-standing (record { opened = s .pre .0 .1; sound = s .pre .1 }) (c .before .before .before .tidy .ensures) in
-    (s .pre .0 .0, t .opened .legible, t .sound)
+    let s = c .before .before .before .before .before .before .before .before .before .before .before .before .before .before in
+    let t = tidy-standing (record { opened = s .pre .0 .1; sound = s .pre .1 }) (c .before .before .before .before .tidy .ensures) in
+    ((s .pre .0 .0, t .opened .legible, t .sound), (omega arith, open-room (t .opened) (replicate 65536 0) (length-replicate {A = ℕ} 65536 0), leasts-none _ _ _))
 
 loop-holds : tie.Need-loop-holds Inv-loop μ-loop
 loop-holds c =
-    let s = c .before .before .before .before .before .before .before .before .before .before .before .before .before .before in
-    (going-start (s .args .until) (tidy-standing (record { opened = s .pre .0 .1; sound = s .pre .1 }) (c .before .before .before .before .tidy .ensures)) (tidy-whole (record { opened = s .pre .0 .1; sound = s .pre .1 }) (c .before .before .before .before .tidy .ensures)) (c .time-after .ensures), s .pre .0 .2, refl, refl, refl, refl, refl, refl, refl, refl)
+    let s = c .before .before .before .before .before .before .before .before .before .before .before .before .before .before .before .before in
+    (going-start (s .args .until) (tidy-standing (record { opened = s .pre .0 .1; sound = s .pre .1 }) (c .before .before .before .before .before .before .tidy .ensures)) (tidy-whole (record { opened = s .pre .0 .1; sound = s .pre .1 }) (c .before .before .before .before .before .before .tidy .ensures)) (record { time-is = c .before .time-after .ensures .0; least-long = c .before .time-after .ensures .1 ∙ length-replicate {A = ℕ} 65536 0; leasts = c .before .time-after .ensures .2 }), s .pre .0 .2, refl, refl, refl, refl, refl, refl, refl, refl)
+
+slice-aggregate-step : tie.Need-slice-aggregate-step Inv-loop μ-loop
+slice-aggregate-step c = sym (c .before .before .before .before .before .before .before .before .before .before .loop .inv .0 .timed .least-long)
 
 step-requires : tie.Need-step-requires Inv-loop μ-loop
 step-requires c κs =
-    let g = c .before .before .before .before .before .before .before .before .before .loop .inv in
-    ((c .before .before .before .before .before .before .before .before .before .before .before .before .before .before .before .before .before .before .before .before .before .before .before .before .pre .0 .0, g .0 .standing .opened, g .1), (g .0 .standing .sound, g .0 .time-is))
+    let g = c .before .before .before .before .before .before .before .before .before .before .loop .inv in
+    ((c .before .before .before .before .before .before .before .before .before .before .before .before .before .before .before .before .before .before .before .before .before .before .before .before .before .before .before .pre .0 .0, g .0 .standing .opened, g .1), (g .0 .standing .sound, g .0 .timed .time-is, g .0 .timed .leasts))
 
 same-length : tie.Need-same-length Inv-loop μ-loop
-same-length c = c .before .before .before .before .before .before .before .before .before .before .before .before .before .before .before .before .before .step .kept .1 .0 ∙ c .before .before .before .before .before .before .before .before .before .before .before .before .before .before .before .before .before .before .before .before .before .before .before .before .before .before .before .loop .inv .2
+same-length c = c .before .before .before .before .before .before .before .before .before .before .before .before .before .before .before .before .before .step .kept .1 .0 ∙ c .before .before .before .before .before .before .before .before .before .before .before .before .before .before .before .before .before .before .before .before .before .before .before .before .before .before .before .before .loop .inv .2
 
 same-length-2 : tie.Need-same-length-2 Inv-loop μ-loop
-same-length-2 c = c .before .before .before .before .before .before .before .before .before .before .before .before .before .before .before .before .before .step .kept .1 .1 .0 ∙ c .before .before .before .before .before .before .before .before .before .before .before .before .before .before .before .before .before .before .before .before .before .before .before .before .before .before .before .loop .inv .3
+same-length-2 c = c .before .before .before .before .before .before .before .before .before .before .before .before .before .before .before .before .before .step .kept .1 .1 .0 ∙ c .before .before .before .before .before .before .before .before .before .before .before .before .before .before .before .before .before .before .before .before .before .before .before .before .before .before .before .before .loop .inv .3
 
 same-length-3 : tie.Need-same-length-3 Inv-loop μ-loop
-same-length-3 c = c .before .before .before .before .before .before .before .before .before .before .before .before .before .before .before .before .before .step .kept .1 .1 .1 .0 ∙ c .before .before .before .before .before .before .before .before .before .before .before .before .before .before .before .before .before .before .before .before .before .before .before .before .before .before .before .loop .inv .4
+same-length-3 c = c .before .before .before .before .before .before .before .before .before .before .before .before .before .before .before .before .before .step .kept .1 .1 .1 .0 ∙ c .before .before .before .before .before .before .before .before .before .before .before .before .before .before .before .before .before .before .before .before .before .before .before .before .before .before .before .before .loop .inv .4
 
 same-length-4 : tie.Need-same-length-4 Inv-loop μ-loop
-same-length-4 c = c .before .before .before .before .before .before .before .before .before .before .before .before .before .before .before .before .before .step .kept .1 .1 .1 .1 .0 ∙ c .before .before .before .before .before .before .before .before .before .before .before .before .before .before .before .before .before .before .before .before .before .before .before .before .before .before .before .loop .inv .5
+same-length-4 c = c .before .before .before .before .before .before .before .before .before .before .before .before .before .before .before .before .before .step .kept .1 .1 .1 .1 .0 ∙ c .before .before .before .before .before .before .before .before .before .before .before .before .before .before .before .before .before .before .before .before .before .before .before .before .before .before .before .before .loop .inv .5
 
 same-length-5 : tie.Need-same-length-5 Inv-loop μ-loop
-same-length-5 c = c .before .before .before .before .before .before .before .before .before .before .before .before .before .before .before .before .before .step .kept .1 .1 .1 .1 .1 .1 .0 ∙ c .before .before .before .before .before .before .before .before .before .before .before .before .before .before .before .before .before .before .before .before .before .before .before .before .before .before .before .loop .inv .6
+same-length-5 c = c .before .before .before .before .before .before .before .before .before .before .before .before .before .before .before .before .before .step .kept .1 .1 .1 .1 .1 .1 .0 ∙ c .before .before .before .before .before .before .before .before .before .before .before .before .before .before .before .before .before .before .before .before .before .before .before .before .before .before .before .before .loop .inv .6
 
 same-length-6 : tie.Need-same-length-6 Inv-loop μ-loop
-same-length-6 c = c .before .before .before .before .before .before .before .before .before .before .before .before .before .before .before .before .before .step .kept .1 .1 .1 .1 .1 .1 .1 .0 ∙ c .before .before .before .before .before .before .before .before .before .before .before .before .before .before .before .before .before .before .before .before .before .before .before .before .before .before .before .loop .inv .7
+same-length-6 c = c .before .before .before .before .before .before .before .before .before .before .before .before .before .before .before .before .before .step .kept .1 .1 .1 .1 .1 .1 .1 .0 ∙ c .before .before .before .before .before .before .before .before .before .before .before .before .before .before .before .before .before .before .before .before .before .before .before .before .before .before .before .before .loop .inv .7
 
 same-length-7 : tie.Need-same-length-7 Inv-loop μ-loop
-same-length-7 c = c .before .before .before .before .before .before .before .before .before .before .before .before .before .before .before .before .before .step .kept .1 .1 .1 .1 .1 .1 .1 .1 .0 ∙ c .before .before .before .before .before .before .before .before .before .before .before .before .before .before .before .before .before .before .before .before .before .before .before .before .before .before .before .loop .inv .8
+same-length-7 c = c .before .before .before .before .before .before .before .before .before .before .before .before .before .before .before .before .before .step .kept .1 .1 .1 .1 .1 .1 .1 .1 .0 ∙ c .before .before .before .before .before .before .before .before .before .before .before .before .before .before .before .before .before .before .before .before .before .before .before .before .before .before .before .before .loop .inv .8
 
 same-length-8 : tie.Need-same-length-8 Inv-loop μ-loop
-same-length-8 c = c .before .before .before .before .before .before .before .before .before .before .before .before .before .before .before .before .before .step .kept .1 .1 .1 .1 .1 .1 .1 .1 .1 .0 ∙ c .before .before .before .before .before .before .before .before .before .before .before .before .before .before .before .before .before .before .before .before .before .before .before .before .before .before .before .loop .inv .9
+same-length-8 c = c .before .before .before .before .before .before .before .before .before .before .before .before .before .before .before .before .before .step .kept .1 .1 .1 .1 .1 .1 .1 .1 .1 .0 ∙ c .before .before .before .before .before .before .before .before .before .before .before .before .before .before .before .before .before .before .before .before .before .before .before .before .before .before .before .before .loop .inv .9
 
 returns : tie.Need-returns Inv-loop μ-loop
 returns c =
-    let s = c .before .before .before .before .before .before .before .before .before .before .before .before .before .before .before .before .before .before .before .before .before .before .before .before .before .before .before .before .before .before .before .before .before .before .before .before .before .before .before .before .before .before in
-    let g = c .before .before .before .before .before .before .before .before .before .before .before .before .before .before .before .before .before .before .before .before .before .before .before .before .before .before .before .loop .inv .0 in
-    tidy-reached (record { opened = s .pre .0 .1; sound = s .pre .1 }) (c .before .before .before .before .before .before .before .before .before .before .before .before .before .before .before .before .before .before .before .before .before .before .before .before .before .before .before .before .before .before .before .before .tidy .ensures) (s .args .until) (length (s .args .letter .now)) (going-full (s .pre .0 .0) g (going-takes (s .pre .0 .0) g (c .before .before .before .before .before .before .before .before .before .before .before .before .before .before .before .before .before .before .before .before .before .before .before .before .before .before .loop-test .taken)) (c .before .before .before .before .before .before .before .before .before .before .before .before .before .before .before .before .before .step .kept .1 .0) (c .before .before .before .before .before .before .before .before .before .before .before .before .before .before .before .before .before .step .ensures) (c .if1 .taken))
+    let s = c .before .before .before .before .before .before .before .before .before .before .before .before .before .before .before .before .before .before .before .before .before .before .before .before .before .before .before .before .before .before .before .before .before .before .before .before .before .before .before .before .before .before .before .before .before in
+    let g = c .before .before .before .before .before .before .before .before .before .before .before .before .before .before .before .before .before .before .before .before .before .before .before .before .before .before .before .before .loop .inv .0 in
+    tidy-reached (record { opened = s .pre .0 .1; sound = s .pre .1 }) (c .before .before .before .before .before .before .before .before .before .before .before .before .before .before .before .before .before .before .before .before .before .before .before .before .before .before .before .before .before .before .before .before .before .before .before .tidy .ensures) (s .args .until) (length (s .args .letter .now)) (going-full (s .pre .0 .0) g (going-takes (s .pre .0 .0) g (c .before .before .before .before .before .before .before .before .before .before .before .before .before .before .before .before .before .before .before .before .before .before .before .before .before .before .before .loop-test .taken)) (c .before .before .before .before .before .before .before .before .before .before .before .before .before .before .before .before .before .step .kept .1 .0) (c .before .before .before .before .before .before .before .before .before .before .before .before .before .before .before .before .before .step .ensures) (c .if1 .taken))
+
+slice-aggregate-time-after-2 : tie.Need-slice-aggregate-time-after-2 Inv-loop μ-loop
+slice-aggregate-time-after-2 c = sym (c .before .before .before .before .before .before .before .before .before .before .before .before .before .before .before .before .before .before .before .before .before .before .before .before .before .before .before .before .before .before .before .before .before .loop .inv .0 .timed .least-long)
 
 time-after-requires-2 : tie.Need-time-after-requires-2 Inv-loop μ-loop
 time-after-requires-2 c κs =
-    let s = c .before .before .before .before .before .before .before .before .before .before .before .before .before .before .before .before .before .before .before .before .before .before .before .before .before .before .before .before .before .before .before .before .before .before .before .before .before .before .before .before .before .before .before .before .before .before in
-    let g = c .before .before .before .before .before .before .before .before .before .before .before .before .before .before .before .before .before .before .before .before .before .before .before .before .before .before .before .before .before .before .before .loop .inv .0 in
-    let t = step-standing (s .pre .0 .0) (g .standing) (c .before .before .before .before .before .before .before .before .before .before .before .before .before .before .before .before .before .before .before .before .before .step .ensures) (going-takes (s .pre .0 .0) g (c .before .before .before .before .before .before .before .before .before .before .before .before .before .before .before .before .before .before .before .before .before .before .before .before .before .before .before .before .before .before .loop-test .taken) .more) (c .before .before .before .before .if1 .left) in
-    (s .pre .0 .0, t .opened .legible, t .sound)
+    let s = c .before .before .before .before .before .before .before .before .before .before .before .before .before .before .before .before .before .before .before .before .before .before .before .before .before .before .before .before .before .before .before .before .before .before .before .before .before .before .before .before .before .before .before .before .before .before .before .before .before .before in
+    let g = c .before .before .before .before .before .before .before .before .before .before .before .before .before .before .before .before .before .before .before .before .before .before .before .before .before .before .before .before .before .before .before .before .before .loop .inv .0 in
+    let more = going-takes (s .pre .0 .0) g (c .before .before .before .before .before .before .before .before .before .before .before .before .before .before .before .before .before .before .before .before .before .before .before .before .before .before .before .before .before .before .before .before .loop-test .taken) .more in
+    let t = step-standing (s .pre .0 .0) (g .standing) (c .before .before .before .before .before .before .before .before .before .before .before .before .before .before .before .before .before .before .before .before .before .before .step .ensures) more (c .before .before .before .before .before .if1 .left) in (
+      (s .pre .0 .0, t .opened .legible, t .sound),
+      (step-more (s .pre .0 .0) (g .standing) (c .before .before .before .before .before .before .before .before .before .before .before .before .before .before .before .before .before .before .before .before .before .before .step .ensures) more (c .before .before .before .before .before .if1 .left), open-room (t .opened) (c .before .before .before .before .before .before .before .before .before .before .before .before .before .before .before .before .before .before .before .before .before .before .before .before .before .before .before .before .before .before .before .before .before .loop .least) (g .timed .least-long), step-leasts (s .pre .0 .0) (g .standing) (c .before .before .before .before .before .before .before .before .before .before .before .before .before .before .before .before .before .before .before .before .before .before .step .ensures) more (c .before .before .before .before .before .if1 .left) (g .timed .leasts)),
+    )
 
 loop-less : tie.Need-loop-less Inv-loop μ-loop
 loop-less c =
-    let s = c .before .before .before .before .before .before .before .before .before .before .before .before .before .before .before .before .before .before .before .before .before .before .before .before .before .before .before .before .before .before .before .before .before .before .before .before .before .before .before .before .before .before .before .before .before .before .before in
-    let g = c .before .before .before .before .before .before .before .before .before .before .before .before .before .before .before .before .before .before .before .before .before .before .before .before .before .before .before .before .before .before .before .before .loop .inv .0 in
-    omega (arith, step-later (s .pre .0 .0) (g .standing) (c .before .before .before .before .before .before .before .before .before .before .before .before .before .before .before .before .before .before .before .before .before .before .step .ensures) (going-takes (s .pre .0 .0) g (c .before .before .before .before .before .before .before .before .before .before .before .before .before .before .before .before .before .before .before .before .before .before .before .before .before .before .before .before .before .before .before .loop-test .taken) .more) (c .before .before .before .before .before .if1 .left))
+    let s = c .before .before .before .before .before .before .before .before .before .before .before .before .before .before .before .before .before .before .before .before .before .before .before .before .before .before .before .before .before .before .before .before .before .before .before .before .before .before .before .before .before .before .before .before .before .before .before .before .before .before .before .before in
+    let g = c .before .before .before .before .before .before .before .before .before .before .before .before .before .before .before .before .before .before .before .before .before .before .before .before .before .before .before .before .before .before .before .before .before .before .before .loop .inv .0 in
+    omega (arith, step-later (s .pre .0 .0) (g .standing) (c .before .before .before .before .before .before .before .before .before .before .before .before .before .before .before .before .before .before .before .before .before .before .before .before .step .ensures) (going-takes (s .pre .0 .0) g (c .before .before .before .before .before .before .before .before .before .before .before .before .before .before .before .before .before .before .before .before .before .before .before .before .before .before .before .before .before .before .before .before .before .before .loop-test .taken) .more) (c .before .before .before .before .before .before .before .if1 .left))
 
 loop-again : tie.Need-loop-again Inv-loop μ-loop
 loop-again c =
-    let s = c .before .before .before .before .before .before .before .before .before .before .before .before .before .before .before .before .before .before .before .before .before .before .before .before .before .before .before .before .before .before .before .before .before .before .before .before .before .before .before .before .before .before .before .before .before .before .before in
-    let v = c .before .before .before .before .before .before .before .before .before .before .before .before .before .before .before .before .before .before .before .before .before .before .before .before .before .before .before .before .before .before .before .before .loop .inv in
-    let k = c .before .before .before .before .before .before .before .before .before .before .before .before .before .before .before .before .before .before .before .before .before .before .step .kept in
-    (going-next (s .pre .0 .0) (v .0) (going-takes (s .pre .0 .0) (v .0) (c .before .before .before .before .before .before .before .before .before .before .before .before .before .before .before .before .before .before .before .before .before .before .before .before .before .before .before .before .before .before .before .loop-test .taken)) (k .1 .0) (c .before .before .before .before .before .before .before .before .before .before .before .before .before .before .before .before .before .before .before .before .before .before .step .ensures) (c .before .before .before .before .before .if1 .left) (c .time-after2 .result) (c .time-after2 .ensures), sized-same (v .1) (k .1 .1 .1 .1 .1 .1 .0) (k .1 .1 .1 .1 .1 .1 .1 .0) (k .1 .1 .1 .1 .1 .1 .1 .1 .0) (k .1 .1 .1 .1 .1 .1 .1 .1 .1 .0), k .1 .0 ∙ v .2, k .1 .1 .0 ∙ v .3, k .1 .1 .1 .0 ∙ v .4, k .1 .1 .1 .1 .0 ∙ v .5, k .1 .1 .1 .1 .1 .1 .0 ∙ v .6, k .1 .1 .1 .1 .1 .1 .1 .0 ∙ v .7, k .1 .1 .1 .1 .1 .1 .1 .1 .0 ∙ v .8, k .1 .1 .1 .1 .1 .1 .1 .1 .1 .0 ∙ v .9)
+    let s = c .before .before .before .before .before .before .before .before .before .before .before .before .before .before .before .before .before .before .before .before .before .before .before .before .before .before .before .before .before .before .before .before .before .before .before .before .before .before .before .before .before .before .before .before .before .before .before .before .before .before .before .before in
+    let v = c .before .before .before .before .before .before .before .before .before .before .before .before .before .before .before .before .before .before .before .before .before .before .before .before .before .before .before .before .before .before .before .before .before .before .before .loop .inv in
+    let k = c .before .before .before .before .before .before .before .before .before .before .before .before .before .before .before .before .before .before .before .before .before .before .before .before .step .kept in
+    (going-next (s .pre .0 .0) (v .0) (going-takes (s .pre .0 .0) (v .0) (c .before .before .before .before .before .before .before .before .before .before .before .before .before .before .before .before .before .before .before .before .before .before .before .before .before .before .before .before .before .before .before .before .before .before .loop-test .taken)) (k .1 .0) (c .before .before .before .before .before .before .before .before .before .before .before .before .before .before .before .before .before .before .before .before .before .before .before .before .step .ensures) (c .before .before .before .before .before .before .before .if1 .left) (record { time-is = c .before .time-after2 .ensures .0; least-long = c .before .time-after2 .ensures .1 ∙ v .0 .timed .least-long; leasts = c .before .time-after2 .ensures .2 }), sized-same (v .1) (k .1 .1 .1 .1 .1 .1 .0) (k .1 .1 .1 .1 .1 .1 .1 .0) (k .1 .1 .1 .1 .1 .1 .1 .1 .0) (k .1 .1 .1 .1 .1 .1 .1 .1 .1 .0), k .1 .0 ∙ v .2, k .1 .1 .0 ∙ v .3, k .1 .1 .1 .0 ∙ v .4, k .1 .1 .1 .1 .0 ∙ v .5, k .1 .1 .1 .1 .1 .1 .0 ∙ v .6, k .1 .1 .1 .1 .1 .1 .1 .0 ∙ v .7, k .1 .1 .1 .1 .1 .1 .1 .1 .0 ∙ v .8, k .1 .1 .1 .1 .1 .1 .1 .1 .1 .0 ∙ v .9)
 
 same-length-9 : tie.Need-same-length-9 Inv-loop μ-loop
 same-length-9 c = c .before .loop .inv .2
@@ -125,8 +135,8 @@ same-length-16 c = c .before .loop .inv .9
 
 returns-2 : tie.Need-returns-2 Inv-loop μ-loop
 returns-2 c =
-    let s = c .before .before .before .before .before .before .before .before .before .before .before .before .before .before .before .before in
-    tidy-reached (record { opened = s .pre .0 .1; sound = s .pre .1 }) (c .before .before .before .before .before .before .tidy .ensures) (s .args .until) (length (s .args .letter .now)) (going-rests (s .pre .0 .0) (c .before .loop .inv .0) (c .loop-test .left))
+    let s = c .before .before .before .before .before .before .before .before .before .before .before .before .before .before .before .before .before .before in
+    tidy-reached (record { opened = s .pre .0 .1; sound = s .pre .1 }) (c .before .before .before .before .before .before .before .before .tidy .ensures) (s .args .until) (length (s .args .letter .now)) (going-rests (s .pre .0 .0) (c .before .loop .inv .0) (c .loop-test .left))
 
 pub steps-spec : {M : Type 1} → statement M
 steps-spec =
@@ -135,8 +145,10 @@ steps-spec =
     Inv-loop
     μ-loop
     tidy-requires
+    slice-aggregate-time-after
     time-after-requires
     loop-holds
+    slice-aggregate-step
     step-requires
     same-length
     same-length-2
@@ -147,6 +159,7 @@ steps-spec =
     same-length-7
     same-length-8
     returns
+    slice-aggregate-time-after-2
     time-after-requires-2
     loop-less
     loop-again

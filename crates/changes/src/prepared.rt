@@ -1,0 +1,214 @@
+// All next changes by functions in the working table, where it has room for those of the marked nodes.
+use crate::roots::all_by_marks;
+use crate::stir::masked;
+use attempt::MOST;
+use attempt::smaller;
+use prepare::prepare;
+use values::Many;
+ghost use mathlib.Core.Path.{_≡_};
+ghost use mathlib.Core.Bool.{true, false};
+ghost use mathlib.Core.List.{map};
+ghost use Rattle.diagram.specs.Call.{tableOf};
+ghost use Rattle.table.specs.Holds.{columns, Sized};
+ghost use Rattle.functions.specs.Open.{Open};
+ghost use Rattle.rules.specs.State.{nodeNumbers};
+ghost use Rattle.rules.specs.Run.{storeAll};
+ghost use Rattle.net.specs.Net.{lettersPlace, at as atPlace, netCircuit};
+ghost use Rattle.net.specs.Laid.{Laid};
+ghost use Rattle.values.specs.All.{OutcomeAll};
+ghost use Rattle.changes.specs.Changes.{changeOf, ValueEntries, PendingEntries, PendingLeasts};
+ghost use Rattle.changes.specs.Mixed.{NodeMarks};
+
+// What was stored, unless working had no room.
+pub struct Tried {
+    pub done: bool,
+    pub many: Many,
+}
+
+// By functions in the columns lent; where these have no room for them, nothing is stored.
+fn try_in(
+    net: &[u32],
+    letter: &mut [u32],
+    low: &mut [u32],
+    high: &mut [u32],
+    index: &mut [u32],
+    used: u32,
+    wletter: &mut [u32],
+    wlow: &mut [u32],
+    whigh: &mut [u32],
+    windex: &mut [u32],
+    time: u32,
+    all: bool,
+    before: [u32; 26],
+    after: [u32; 26],
+    pending: [u32; 26],
+    marks: [u32; 26],
+    least: &[u32],
+) -> Tried
+    requires { ⌜ Laid (netCircuit (now net)) (now net) × Open (atPlace (now net) lettersPlace) (now letter) (now low) (now high) (now index) used × Sized (now wletter) (now wlow) (now whigh) (now windex) ⌝ }
+    requires { ⌜ ValueEntries (atPlace (now net) lettersPlace) (tableOf (columns (now letter) (now low) (now high)) used) used before × ValueEntries (atPlace (now net) lettersPlace) (tableOf (columns (now letter) (now low) (now high)) used) used after × PendingEntries used pending × NodeMarks (now net) before after all marks × PendingLeasts (atPlace (now net) lettersPlace) (tableOf (columns (now letter) (now low) (now high)) used) pending (now least) ⌝ }
+    ensures { λ r. ⌜ (r .done ≡ true → OutcomeAll (tableOf (columns (now (letter .entry)) (now (low .entry)) (now (high .entry))) used) (storeAll (atPlace (now (net .entry)) lettersPlace) (map (changeOf (netCircuit (now (net .entry))) time all (atPlace (now (net .entry)) lettersPlace) (tableOf (columns (now (letter .entry)) (now (low .entry)) (now (high .entry))) used) before after pending) (nodeNumbers (netCircuit (now (net .entry))))) (tableOf (columns (now (letter .entry)) (now (low .entry)) (now (high .entry))) used)) (now (letter .exit)) (now (low .exit)) (now (high .exit)) (now (index .exit)) (r .many .full) (r .many .used) (r .many .entries)) × (r .done ≡ false → (now (letter .exit) ≡ now (letter .entry)) × (now (low .exit) ≡ now (low .entry)) × (now (high .exit) ≡ now (high .entry)) × (now (index .exit) ≡ now (index .entry))) ⌝ }
+{
+    let k = net[net::LETTERS];
+    let left = masked(marks, pending);
+    let q = prepare(
+        net,
+        letter,
+        low,
+        high,
+        used,
+        wletter,
+        wlow,
+        whigh,
+        windex,
+        k,
+        before,
+        after,
+        left,
+        all,
+        0,
+    );
+    if q.full {
+        return Tried {
+            done: false,
+            many: Many {
+                full: false,
+                used,
+                entries: [0u32; 24],
+            },
+        };
+    }
+    let roots = q.roots;
+    let many = all_by_marks(
+        net,
+        wletter,
+        wlow,
+        whigh,
+        q.used,
+        letter,
+        low,
+        high,
+        index,
+        used,
+        time,
+        roots,
+        marks,
+        pending,
+        least,
+    );
+    Tried { done: true, many }
+}
+
+// The same in the first entries of working: a few are cleared and gone through in less time than all.
+fn try_first(
+    net: &[u32],
+    letter: &mut [u32],
+    low: &mut [u32],
+    high: &mut [u32],
+    index: &mut [u32],
+    used: u32,
+    wletter: &mut [u32],
+    wlow: &mut [u32],
+    whigh: &mut [u32],
+    windex: &mut [u32],
+    time: u32,
+    all: bool,
+    before: [u32; 26],
+    after: [u32; 26],
+    pending: [u32; 26],
+    marks: [u32; 26],
+    least: &[u32],
+) -> Tried
+    requires { ⌜ Laid (netCircuit (now net)) (now net) × Open (atPlace (now net) lettersPlace) (now letter) (now low) (now high) (now index) used × Sized (now wletter) (now wlow) (now whigh) (now windex) ⌝ }
+    requires { ⌜ ValueEntries (atPlace (now net) lettersPlace) (tableOf (columns (now letter) (now low) (now high)) used) used before × ValueEntries (atPlace (now net) lettersPlace) (tableOf (columns (now letter) (now low) (now high)) used) used after × PendingEntries used pending × NodeMarks (now net) before after all marks × PendingLeasts (atPlace (now net) lettersPlace) (tableOf (columns (now letter) (now low) (now high)) used) pending (now least) ⌝ }
+    ensures { λ r. ⌜ (r .done ≡ true → OutcomeAll (tableOf (columns (now (letter .entry)) (now (low .entry)) (now (high .entry))) used) (storeAll (atPlace (now (net .entry)) lettersPlace) (map (changeOf (netCircuit (now (net .entry))) time all (atPlace (now (net .entry)) lettersPlace) (tableOf (columns (now (letter .entry)) (now (low .entry)) (now (high .entry))) used) before after pending) (nodeNumbers (netCircuit (now (net .entry))))) (tableOf (columns (now (letter .entry)) (now (low .entry)) (now (high .entry))) used)) (now (letter .exit)) (now (low .exit)) (now (high .exit)) (now (index .exit)) (r .many .full) (r .many .used) (r .many .entries)) × (r .done ≡ false → (now (letter .exit) ≡ now (letter .entry)) × (now (low .exit) ≡ now (low .entry)) × (now (high .exit) ≡ now (high .entry)) × (now (index .exit) ≡ now (index .entry))) ⌝ }
+{
+    let size = smaller(wletter.len());
+    let places = 2 * size;
+    try_in(
+        net,
+        letter,
+        low,
+        high,
+        index,
+        used,
+        &mut wletter[..size],
+        &mut wlow[..size],
+        &mut whigh[..size],
+        &mut windex[..places],
+        time,
+        all,
+        before,
+        after,
+        pending,
+        marks,
+        least,
+    )
+}
+
+// In the first entries of working, or else in all of it.
+pub fn by_functions(
+    net: &[u32],
+    letter: &mut [u32],
+    low: &mut [u32],
+    high: &mut [u32],
+    index: &mut [u32],
+    used: u32,
+    wletter: &mut [u32],
+    wlow: &mut [u32],
+    whigh: &mut [u32],
+    windex: &mut [u32],
+    time: u32,
+    all: bool,
+    before: [u32; 26],
+    after: [u32; 26],
+    pending: [u32; 26],
+    marks: [u32; 26],
+    least: &[u32],
+) -> Tried
+    requires { ⌜ Laid (netCircuit (now net)) (now net) × Open (atPlace (now net) lettersPlace) (now letter) (now low) (now high) (now index) used × Sized (now wletter) (now wlow) (now whigh) (now windex) ⌝ }
+    requires { ⌜ ValueEntries (atPlace (now net) lettersPlace) (tableOf (columns (now letter) (now low) (now high)) used) used before × ValueEntries (atPlace (now net) lettersPlace) (tableOf (columns (now letter) (now low) (now high)) used) used after × PendingEntries used pending × NodeMarks (now net) before after all marks × PendingLeasts (atPlace (now net) lettersPlace) (tableOf (columns (now letter) (now low) (now high)) used) pending (now least) ⌝ }
+    ensures { λ r. ⌜ (r .done ≡ true → OutcomeAll (tableOf (columns (now (letter .entry)) (now (low .entry)) (now (high .entry))) used) (storeAll (atPlace (now (net .entry)) lettersPlace) (map (changeOf (netCircuit (now (net .entry))) time all (atPlace (now (net .entry)) lettersPlace) (tableOf (columns (now (letter .entry)) (now (low .entry)) (now (high .entry))) used) before after pending) (nodeNumbers (netCircuit (now (net .entry))))) (tableOf (columns (now (letter .entry)) (now (low .entry)) (now (high .entry))) used)) (now (letter .exit)) (now (low .exit)) (now (high .exit)) (now (index .exit)) (r .many .full) (r .many .used) (r .many .entries)) × (r .done ≡ false → (now (letter .exit) ≡ now (letter .entry)) × (now (low .exit) ≡ now (low .entry)) × (now (high .exit) ≡ now (high .entry)) × (now (index .exit) ≡ now (index .entry))) ⌝ }
+{
+    let first = try_first(
+        net,
+        letter,
+        low,
+        high,
+        index,
+        used,
+        wletter,
+        wlow,
+        whigh,
+        windex,
+        time,
+        all,
+        before,
+        after,
+        pending,
+        marks,
+        least,
+    );
+    if first.done | (wletter.len() <= MOST) {
+        return first;
+    }
+    try_in(
+        net,
+        letter,
+        low,
+        high,
+        index,
+        used,
+        wletter,
+        wlow,
+        whigh,
+        windex,
+        time,
+        all,
+        before,
+        after,
+        pending,
+        marks,
+        least,
+    )
+}
