@@ -154,20 +154,24 @@ fn main() {
         "walked ms",
         "ratio"
     );
-    for (first, second) in [(4, 4), (5, 5), (6, 6)] {
-        line(
-            "carry chain, two additions",
-            &designs::carry_additions(first, second, 30),
-        );
-    }
     for letters in [0, 8, 10, 12] {
         line(
             "carry chain, inputs 30 ps apart",
             &designs::carry_chain(letters, 30),
         );
     }
+    line(
+        "carry chain, inputs 100 ps apart",
+        &designs::carry_chain(12, 100),
+    );
     line("carry chain, inputs together", &designs::carry_chain(12, 0));
-    for letters in [8, 12] {
+    for (first, second) in [(9, 3), (8, 4), (7, 5), (6, 6)] {
+        line(
+            &format!("carry chain, additions {first} + {second}"),
+            &designs::carry_additions(first, second, 30),
+        );
+    }
+    for letters in [8, 10, 12] {
         line(
             "barrel column, inputs 30 ps apart",
             &designs::barrel_column(letters, 30),
