@@ -7,6 +7,7 @@ mod steps;
 
 use close::closed;
 use close::refused;
+use functions::numbers::NEVER;
 use moment::start;
 use moment::step;
 use record::Run;
@@ -41,8 +42,6 @@ pub struct Went {
     pub reply: Reply,
     pub run: Run,
 }
-
-const NEVER: u32 = 4294967295;
 
 // Whether run and table are sound together; where the table is, the index holds it.
 fn sound_together(

@@ -1,4 +1,5 @@
 // Every step not later than a time.
+use functions::numbers::NEVER;
 use moment::Next;
 use moment::step;
 use record::Run;
@@ -17,8 +18,6 @@ ghost use Rattle.record.specs.Record.{runOf, recordOf};
 ghost use Rattle.net.specs.Net.{lettersPlace, at as atPlace, netCircuit};
 ghost use Rattle.net.specs.Laid.{Laid};
 ghost use Rattle.advance.specs.Reached.{Reached};
-
-const NEVER: u32 = 4294967295;
 
 // The first entries, 0 past them.
 fn firsts(entries: [u32; 24], count: usize) -> [u32; 24]

@@ -15,7 +15,7 @@ use Rattle.table.specs.Holds.{columns, Outcome}
 use Rattle.functions.specs.Open.{Open}
 use Rattle.working.specs.Many.{held, AllUsed}
 use Rattle.working.proofs.Grow.{open-few, open-sound}
-use Rattle.rules.proofs.Matrix.{or-second}
+use Rattle.lists.proofs.Cases.{or-right}
 use Rattle.net.specs.Net.{at, netCircuit, netGroup}
 use Rattle.prepare.specs.Steps.{Bits, considered}
 use Rattle.prepare.specs.Roots.{Roots}
@@ -71,7 +71,7 @@ module _ {net l w h ix : List ℕ} {k used n : ℕ} {entries before after : List
   }
 
   own-group : considered (netGroup net n) (netGroup net n) ≡ true
-  own-group = or-second (eqb (netGroup net n) 0) (eqb (netGroup net n) (netGroup net n)) (eq-eqb (netGroup net n) (netGroup net n) refl)
+  own-group = or-right (eqb (netGroup net n) 0) (eqb (netGroup net n) (netGroup net n)) (eq-eqb (netGroup net n) (netGroup net n) refl)
 
   module _ {all : Bool} {wl ww wh wix : List ℕ} {wused : ℕ} {roots out : List ℕ} (r : Roots net k (tableOf (columns l w h) used) before after (alike (getD entries 52 0)) all (netGroup net n) wl ww wh wix wused roots) (f : RootsFor roots n out) where
     ground : getD after 0 0 ≡ 0

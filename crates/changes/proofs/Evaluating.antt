@@ -7,7 +7,7 @@ use Prim.Native.Nat.{ℕ, _+_, _-_, _≤_, _<_}
 use native.Mathlib.Omega.{arith}
 use lib.ListN.{length, getD}
 use Rattle.lists.proofs.Cases.{lt-or-ge}
-use Rattle.format.proofs.Every.{map-same}
+use Rattle.lists.proofs.Map.{map-same}
 use Rattle.format.specs.Circuit.{Circuit, firstNodeNumber}
 use Rattle.diagram.specs.Pattern.{patterns}
 use Rattle.diagram.specs.Table.{Table, never, numberAt}

@@ -7,7 +7,7 @@ use native.Mathlib.Omega.{arith}
 use lib.ListN.{length, getD, length-map}
 use borrow.Author.Tests.{not-true}
 use Rattle.format.specs.Circuit.{firstNodeNumber}
-use Rattle.format.proofs.Every.{map-at}
+use Rattle.lists.proofs.Map.{map-at}
 use Rattle.diagram.specs.Pattern.{patterns}
 use Rattle.diagram.specs.Table.{Table}
 use Rattle.diagram.specs.Call.{tableOf}

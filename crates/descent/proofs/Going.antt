@@ -10,7 +10,7 @@ use lib.Seq.{ext-getD}
 use lib.Dec.{eqb}
 use lib.Pow.{pow-pos}
 use Rattle.format.specs.Circuit.{Circuit}
-use Rattle.format.proofs.Every.{map-at}
+use Rattle.lists.proofs.Map.{map-at}
 use Rattle.diagram.specs.Pattern.{letterAt, withLetter}
 use Rattle.diagram.specs.Table.{Entry, Table, terminalLetter, terminal, entryAt, partOf, numberAt}
 use Rattle.diagram.specs.Store.{add, both, store}

@@ -11,7 +11,7 @@ use Rattle.format.specs.Circuit.{Circuit}
 use Rattle.net.specs.Net.{netCircuit}
 use Rattle.walk.specs.Leaf.{isKept, leafState, leafChannels, leafChange}
 use Rattle.walk.specs.Ready.{Net, Ready}
-use Rattle.walk.proofs.Cell.{net-nodes, net-transistors}
+use Rattle.net.proofs.Laying.{nodes-length, transistors-length}
 use Rattle.descent.specs.Settle.{isTouched, pendingOf, settledAt}
 use Rattle.descent.specs.Descend.{Settleable}
 use Rattle.descent.proofs.Channels.{by-ext}
@@ -25,7 +25,7 @@ module _ {net : List ℕ} {n : ℕ} {numbers : List ℕ} (h : Settleable net n n
 
   values-first : take (length (c .nodes)) (drop 2 (take 90 numbers)) ≡ take (length (c .nodes)) (drop 2 numbers)
   values-first =
-      let few : length (c .nodes) ≤ 24 = omega (arith, net-nodes net, cell .within .nodes) in
+      let few : length (c .nodes) ≤ 24 = omega (arith, nodes-length net, cell .within .nodes) in
       let long : length (take 90 numbers) ≡ 90 = simp length-take (omega (arith, h .long)) in
       let one : length (drop 2 (take 90 numbers)) ≡ 88 = simp length-drop (omega arith) in
       let two : length (drop 2 numbers) ≡ 90 = simp length-drop (omega (arith, h .long)) in
@@ -46,7 +46,7 @@ module _ {net : List ℕ} {n : ℕ} {numbers : List ℕ} (h : Settleable net n n
   channels-first : leafChannels c (take 90 numbers) ≡ leafChannels c numbers
   channels-first =
       by-ext (isKept (take 90 numbers)) (isKept numbers) 0 (c .transistors)
-      (λ j _ l. ap (λ (v : ℕ). eqb v 1) (getD-take 90 numbers (26 + j) 0 (omega (arith, net-transistors net, cell .within .transistors))))
+      (λ j _ l. ap (λ (v : ℕ). eqb v 1) (getD-take 90 numbers (26 + j) 0 (omega (arith, transistors-length net, cell .within .transistors))))
 
   module _ (touched : isTouched numbers ≡ true) where
     -- they are ready for the walks

@@ -10,7 +10,7 @@ use lib.Seq.{getD-set-same, getD-set-other}
 use lib.Dec.{eqb}
 use borrow.Author.Tests.{eqb-true, ne-eqb}
 use Rattle.lists.proofs.Cases.{bool-cases, lt-or-ge, eq-or-ne}
-use Rattle.format.proofs.Every.{map-at}
+use Rattle.lists.proofs.Map.{map-at}
 use Rattle.diagram.specs.Table.{terminalLetter}
 use Rattle.descent.specs.Piece.{matters, Selected}
 use Rattle.descent.specs.Live.{Listed, Places, Live}

@@ -13,7 +13,7 @@ use borrow.Author.Tests.{eq-eqb, ne-eqb, eqb-true, lt-ltb}
 use Rattle.lists.proofs.Cases.{bool-cases, lt-or-ge, and-right, and-both, true-false}
 use Rattle.format.specs.declared.Transistor.{Transistor}
 use Rattle.format.specs.Circuit.{Circuit, noTransistor, nodeRecord}
-use Rattle.format.proofs.Every.{map-at}
+use Rattle.lists.proofs.Map.{map-at}
 use Rattle.diagram.specs.Table.{Entry, Table, numberAt}
 use Rattle.diagram.proofs.Sound.{Sound, sound-record}
 use Rattle.diagram.proofs.Number.{number-terminal}
@@ -29,7 +29,8 @@ use Rattle.net.specs.Net.{nodesPlace, transistorsPlace, at, netTransistor, netC
 use Rattle.walk.specs.Leaf.{isKept, leafState, leafChannels, netChannel}
 use Rattle.net.specs.Laid.{TransistorWithin}
 use Rattle.walk.specs.Ready.{Net}
-use Rattle.walk.proofs.Cell.{net-nodes, net-transistors, net-transistor, inner-least, net-capacitance}
+use Rattle.net.proofs.Laying.{nodes-length, transistors-length, transistor-at}
+use Rattle.walk.proofs.Cell.{inner-least, net-capacitance}
 use Rattle.descent.specs.Settle.{leafAt, isTouched, pendingOf, settledAt, Roots, Calm}
 use Rattle.descent.specs.Piece.{isIn, isNear, isOff, Beside, Piece, isTouching, matters, Selected, Narrowed}
 use Rattle.descent.specs.Descend.{Inner}
@@ -90,14 +91,14 @@ module _ {net roots marks : List ℕ} {n : ℕ} (inner : Inner net n) (piece : P
   in-near m e = let z : getD marks m 0 ≡ 1 = eqb-true (getD marks m 0) 1 e in rw z
 
   in-numbered : (m : ℕ) → isIn marks m ≡ true → Numbered c m
-  in-numbered m e = record { least = inner-least net m (piece .inner m e); most = omega (arith, piece .small m e, net-nodes net) }
+  in-numbered m e = record { least = inner-least net m (piece .inner m e); most = omega (arith, piece .small m e, nodes-length net) }
 
   -- a transistor at a node of the piece that is not off leads to what stands beside it
   reaches : (i x : ℕ) → i < M → isOff roots i ≡ false → isIn marks x ≡ true → eqb (netTransistor net i .first) x || eqb (netTransistor net i .second) x ≡ true
       → Beside c marks (farEnd x (netChannel net i))
   reaches i x h on e end =
-      let same : getD (c .transistors) i noTransistor ≡ netTransistor net i = net-transistor net i h in
-      let arm = arms-has x 0 (c .transistors) i (omega (arith, net-transistors net)) (rw same end) in
+      let same : getD (c .transistors) i noTransistor ≡ netTransistor net i = transistor-at net i h in
+      let arm = arms-has x 0 (c .transistors) i (omega (arith, transistors-length net)) (rw same end) in
       let list : netArms net x ≡ armsOf c x = cell .arms x (piece .small x e) in
       let is : getD (netArms net x) (arm .0) 0 ≡ i = ap (λ (l : List ℕ). getD l (arm .0) 0) list ∙ arm .2 ∙ omega arith in
       let lt : arm .0 < length (netArms net x) = rw list (arm .1) in
@@ -163,10 +164,10 @@ module _ {net roots marks : List ℕ} {n : ℕ} (inner : Inner net n) (piece : P
     arm-matters i h = let z : 26 + i - 26 ≡ i = omega arith in matters-arm net marks (26 + i) (omega arith) (omega arith) ∙ ap (isTouching net marks) z
 
     few-transistors : (i : ℕ) → i < length (c .transistors) → (i < M) × (i < 64)
-    few-transistors i h = omega (arith, net-transistors net, cell .within .transistors)
+    few-transistors i h = omega (arith, transistors-length net, cell .within .transistors)
 
     few-nodes : (m : ℕ) → Numbered c m → m < 26
-    few-nodes m h = omega (arith, h .most, net-nodes net, cell .within .nodes)
+    few-nodes m h = omega (arith, h .most, nodes-length net, cell .within .nodes)
 
     -- a channel of the numbers: its transistor, not off
     channel : (k : Channel) → List·Memᴰ k (leafChannels c A) → (k .number < M) × (k .transistor ≡ netTransistor net (k .number)) × (isOff roots (k .number) ≡ false)
@@ -174,7 +175,7 @@ module _ {net roots marks : List ℕ} {n : ℕ} (inner : Inner net n) (piece : P
         let f : Flagged (isKept A) 0 (c .transistors) k = by-flagged (isKept A) 0 (c .transistors) k m in
         let z : k .number - 0 ≡ k .number = omega arith in
         let few = few-transistors (k .number) (omega (arith, f .most)) in
-        (few .0, f .is ∙ ap (λ (i : ℕ). getD (c .transistors) i noTransistor) z ∙ net-transistor net (k .number) (few .0), off-number (k .number) (few .1) (f .up))
+        (few .0, f .is ∙ ap (λ (i : ℕ). getD (c .transistors) i noTransistor) z ∙ transistor-at net (k .number) (few .0), off-number (k .number) (few .1) (f .up))
 
     module _ (q : ℕ) where
       near-value : (m : ℕ) → Numbered c m → isNear marks m ≡ true → valueAt (leafState c q A) m ≡ valueAt (leafState c q B) m
@@ -188,7 +189,7 @@ module _ {net roots marks : List ℕ} {n : ℕ} (inner : Inner net n) (piece : P
             d .0,
             ⊎-elim
                 (λ (g : m < 2). rw (lt-ltb m 2 g))
-                (λ (g : 2 ≤ m). near-value m (record { least = g; most = omega (arith, net-nodes net) }) (d .1))
+                (λ (g : 2 ≤ m). near-value m (record { least = g; most = omega (arith, nodes-length net) }) (d .1))
                 (lt-or-ge m 2),
           )
 
@@ -199,7 +200,7 @@ module _ {net roots marks : List ℕ} {n : ℕ} (inner : Inner net n) (piece : P
         same = by-only P (isKept A) (isKept B) 0 (c .transistors) (λ j _ l e.
             let few = few-transistors j (omega arith) in
             let z : j - 0 ≡ j = omega arith in
-            let same : getD (c .transistors) (j - 0) noTransistor ≡ netTransistor net j = ap (λ (i : ℕ). getD (c .transistors) i noTransistor) z ∙ net-transistor net j (few .0) in
+            let same : getD (c .transistors) (j - 0) noTransistor ≡ netTransistor net j = ap (λ (i : ℕ). getD (c .transistors) i noTransistor) z ∙ transistor-at net j (few .0) in
             let touch : isIn marks (netTransistor net j .first) || isIn marks (netTransistor net j .second) ≡ true = rw same at e in
             let counts : matters net marks (26 + j) ≡ true = arm-matters j (few .1) ∙ and-both (ltb j M) _ (lt-ltb j M (few .0)) touch in
             ap (λ (v : ℕ). eqb v 1) (sym (kept-number (26 + j) (omega (arith, few .1)) counts)));
@@ -241,7 +242,7 @@ module _ {net roots marks : List ℕ} {n : ℕ} (inner : Inner net n) (piece : P
         (bool-cases (matters net marks (26 + k .number))) in
         let on : isKept A (k .number) ≡ true = ap (λ (v : ℕ). eqb v 1) (sym (kept-number (26 + k .number) (omega (arith, few .1)) counts)) ∙ f .up in (
           few .0,
-          f .is ∙ ap (λ (i : ℕ). getD (c .transistors) i noTransistor) z ∙ net-transistor net (k .number) (few .0),
+          f .is ∙ ap (λ (i : ℕ). getD (c .transistors) i noTransistor) z ∙ transistor-at net (k .number) (few .0),
           off-number (k .number) (few .1) on,
           sym (arm-matters (k .number) (few .1)) ∙ counts,
         )
@@ -266,7 +267,7 @@ module _ {net roots marks : List ℕ} {n : ℕ} (inner : Inner net n) (piece : P
         small-own : isDriven c m ≡ false → nodeRecord c m .capacitance .0 ≤ 65535
         small-own e =
             let l : 2 ≤ m = inner-least net m e in
-            rw (net-capacitance net m l (omega (arith, net-nodes net))) (cell .within .node (m - 2) (omega (arith, net-nodes net)) .capacitance)
+            rw (net-capacitance net m l (omega (arith, nodes-length net))) (cell .within .node (m - 2) (omega (arith, nodes-length net)) .capacitance)
 
         own-sum : (v : ℕ) → isDriven c m ≡ false → ownSum (nodeRecord c m .capacitance) v .highCharge .0 + ownSum (nodeRecord c m .capacitance) v .lowCharge .0 < 2 ^ 31
         own-sum v e = by (eqb v 1) (small-own e)
@@ -323,7 +324,7 @@ module _ {net roots marks : List ℕ} {n : ℕ} (inner : Inner net n) (piece : P
           ground = first-of B 0 (omega arith) ∙ kept-number 0 (omega arith) (matters-rail net marks 0 (omega arith)) ∙ sym (first-of A 0 (omega arith)) ∙ calm .leaf .ground;
           supply = first-of B 1 (omega arith) ∙ kept-number 1 (omega arith) (matters-rail net marks 1 (omega arith)) ∙ sym (first-of A 1 (omega arith)) ∙ calm .leaf .supply;
           bits = λ m h.
-              let small : m < 26 = omega (arith, net-nodes net, cell .within .nodes) in
+              let small : m < 26 = omega (arith, nodes-length net, cell .within .nodes) in
               rw (first-of B m (omega arith))
               (⊎-elim
               (λ (e : matters net marks m ≡ true). rw (kept-number m (omega arith) e, ← first-of A m (omega arith)) (calm .leaf .bits m h))

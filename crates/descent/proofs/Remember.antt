@@ -15,12 +15,12 @@ use Rattle.diagram.specs.Call.{tableOf}
 use Rattle.diagram.proofs.Sound.{Sound}
 use Rattle.diagram.proofs.Add.{Extends}
 use Rattle.diagram.proofs.Number.{numberAt-extends}
-use Rattle.diagram.proofs.Store.{IsStored, store-stored, store-present}
+use Rattle.diagram.proofs.Store.{IsStored, store-stored, store-present, join-extends}
 use Rattle.table.specs.declared.Put.{Put}
 use Rattle.table.specs.Holds.{columns, Outcome}
 use Rattle.table.proofs.Outcomes.{put, holds-table, outcome-there}
 use Rattle.functions.specs.Open.{Open}
-use Rattle.functions.proofs.Carry.{legible-sound, join-extends, open-next}
+use Rattle.functions.proofs.Carry.{legible-sound, open-next}
 use Rattle.descent.specs.Memo.{slotRoots, Means, Memo, Looked, Remembered}
 
 module _ {F : List ℕ → ℕ → ℕ} {k : ℕ} where

@@ -1,7 +1,6 @@
 // The descent: the halves of all roots at their least letter, low first, then high, then the root entry.
 use crate::PENDING;
 use crate::TOUCHED;
-use crate::letters::TERMINAL;
 use crate::live::all_places;
 use crate::live::halve;
 use crate::live::least_live;
@@ -12,6 +11,7 @@ use crate::memo::keep;
 use crate::memo::look;
 use crate::quiet::quiet;
 use crate::settle::settled;
+use functions::numbers::TERMINAL;
 use functions::step::join;
 use table::Put;
 ghost use mathlib.Core.Path.{_≡_};

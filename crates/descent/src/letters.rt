@@ -1,13 +1,11 @@
 // Roots and their letters: the least letter, the parts at a letter, and the numbers of terminals.
+use functions::numbers::TERMINAL;
 ghost use mathlib.Core.Path.{_≡_};
 ghost use mathlib.Core.Bool.{cond};
 ghost use Prim.Native.Nat.{_<_, min};
 ghost use lib.ListN.{length, getD};
 ghost use lib.Dec.{eqb};
 ghost use Rattle.descent.specs.Descend.{Entries, Least, HalfOf, NumbersOf};
-
-// The letter of a terminal: past all.
-pub const TERMINAL: u32 = 4294967295;
 
 // A column's number of entry e.
 pub fn entry_of(column: &[u32], e: u32) -> u32

@@ -1,10 +1,10 @@
 // The roots that are not entry 0, by a list of their places: what is left of them, their least letter, their parts, their numbers.
-use crate::letters::TERMINAL;
 use crate::letters::entry_of;
 use crate::letters::least;
 use crate::letters::part;
 use crate::mask::matters;
 use crate::piece::piece;
+use functions::numbers::TERMINAL;
 ghost use mathlib.Core.Path.{_≡_};
 ghost use mathlib.Core.Bool.{cond};
 ghost use Prim.Native.Nat.{ℕ, _+_, _<_};

@@ -1,6 +1,6 @@
 // The next change where no pattern is touched: the pending change with T taken out.
-use crate::letters::TERMINAL;
 use crate::settle::pending_after;
+use functions::numbers::TERMINAL;
 use functions::step::join;
 use table::Put;
 ghost use Rattle.diagram.specs.Store.{store};

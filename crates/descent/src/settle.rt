@@ -1,13 +1,12 @@
 // What the numbers of one pattern settle: the one-pattern rule where the group is touched, else the pending change.
 use crate::PENDING;
 use crate::TOUCHED;
+use functions::numbers::NEVER;
 use walk::change::next_change;
 ghost use mathlib.Core.Path.{_≡_};
 ghost use Rattle.net.specs.Net.{netCircuit};
 ghost use Rattle.descent.specs.Settle.{pendingAfter, settledAt};
 ghost use Rattle.descent.specs.Descend.{Settleable};
-
-const NEVER: u32 = 4294967295;
 
 // The pending change once T has happened.
 pub fn pending_after(time: u32, pending: u32) -> u32

@@ -10,7 +10,6 @@ use native.Mathlib.Omega.{arith}
 use lib.ListN.{length, getD, take, length-take}
 use lib.Seq.{take-suc, getD-take}
 use Rattle.lists.proofs.Cases.{bool-cases, and-left, and-right, and-both, true-false}
-pub use Rattle.lists.proofs.Map.{map-same, map-at}
 use Rattle.format.specs.Circuit.{every}
 
 module _ {A : Type 0} (test : A → Bool) where

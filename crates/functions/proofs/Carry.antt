@@ -16,8 +16,7 @@ use Rattle.diagram.specs.Call.{lengthsLegal, columnsSound, rows, tableOf}
 use Rattle.diagram.proofs.Sound.{Branch, Sound, sound-record, sound-test}
 use Rattle.diagram.proofs.Add.{Extends, extends-trans}
 use Rattle.diagram.proofs.Number.{part-low, part-high, part-self, part-within, part-larger}
-use Rattle.diagram.proofs.Store.{IsStored, store-stored, join-same, join-differ}
-pub use Rattle.diagram.proofs.Store.{join-extends}
+use Rattle.diagram.proofs.Store.{IsStored, store-stored, join-same, join-differ, join-extends}
 use Rattle.diagram.proofs.Columns.{Lengths, ColumnsSound, lengths-record, columns-record, rows-at, table-at, table-length}
 use Rattle.table.specs.declared.Put.{Put}
 use Rattle.table.specs.Holds.{columns, Holds, Judged, Outcome}

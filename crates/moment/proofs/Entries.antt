@@ -7,7 +7,7 @@ use native.Mathlib.Omega.{arith}
 use lib.ListN.{length, getD, take, replicate, getD-replicate}
 use lib.Seq.{getD-take}
 use Rattle.format.specs.Circuit.{Circuit}
-use Rattle.format.proofs.Every.{map-at}
+use Rattle.lists.proofs.Map.{map-at}
 use Rattle.diagram.specs.Pattern.{mostLetters, patterns}
 use Rattle.diagram.specs.Table.{Table, never, numberAt}
 use Rattle.diagram.specs.Call.{tableOf}

@@ -12,7 +12,7 @@ use Rattle.lists.proofs.Padded.{padded-read}
 use Rattle.lists.proofs.Cases.{true-false}
 use Rattle.format.specs.Circuit.{Circuit}
 use Rattle.format.specs.Legal.{mostNodes}
-use Rattle.format.proofs.Every.{map-at}
+use Rattle.lists.proofs.Map.{map-at}
 use Rattle.diagram.specs.Pattern.{mostLetters, patterns}
 use Rattle.diagram.specs.Table.{Table, numberAt}
 use Rattle.diagram.specs.Call.{tableOf}

@@ -8,7 +8,7 @@ use lib.ListN.{length, getD, set, replicate, length-set, length-append, List·ge
 use lib.Seq.{getD-set-same, getD-set-other, getD-append-add}
 use Rattle.lists.proofs.Cases.{eq-or-ne}
 use Rattle.lists.proofs.Padded.{replicate-read, padded-length, padded-at}
-use Rattle.format.proofs.Every.{map-at}
+use Rattle.lists.proofs.Map.{map-at}
 use Rattle.diagram.specs.Table.{Table, numberAt}
 use Rattle.descent.specs.Settle.{leafAt}
 use Rattle.changes.specs.Changes.{entriesFor}

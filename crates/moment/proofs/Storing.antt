@@ -10,7 +10,7 @@ use borrow.Author.Tests.{le-ltb}
 use Rattle.lists.proofs.Cases.{bool-cases, lt-or-ge}
 use Rattle.format.specs.Circuit.{Circuit}
 use Rattle.format.specs.Legal.{isInput}
-use Rattle.format.proofs.Every.{map-at}
+use Rattle.lists.proofs.Map.{map-at}
 use Rattle.diagram.specs.Pattern.{mostLetters, patterns}
 use Rattle.diagram.specs.Table.{Table, never, numberAt}
 use Rattle.diagram.proofs.Sound.{Sound}

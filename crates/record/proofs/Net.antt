@@ -13,7 +13,7 @@ use Rattle.lists.proofs.Below.{below-ext}
 use Rattle.format.specs.declared.Entry.{Entry}
 use Rattle.format.specs.Circuit.{Circuit, noNode, noEntry}
 use Rattle.format.specs.Legal.{isInput, input}
-use Rattle.format.proofs.Every.{map-at}
+use Rattle.lists.proofs.Map.{map-at}
 use Rattle.rules.specs.State.{upFrom}
 use Rattle.rules.specs.Run.{inputsRest, neverEntry}
 use Rattle.rules.proofs.State.{up-length, up-at}

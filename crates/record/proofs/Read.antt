@@ -15,7 +15,7 @@ use Rattle.lists.proofs.Cases.{lt-or-ge, eq-or-ne}
 use Rattle.lists.proofs.Below.{below-ext}
 use Rattle.format.specs.Circuit.{Circuit, every}
 use Rattle.format.specs.Legal.{mostNodes, isInput}
-use Rattle.format.proofs.Every.{map-at}
+use Rattle.lists.proofs.Map.{map-at}
 use Rattle.diagram.specs.Pattern.{patterns}
 use Rattle.diagram.specs.Table.{Table, never, numberAt}
 use Rattle.diagram.specs.Operation.{twoValued}

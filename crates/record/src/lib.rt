@@ -43,9 +43,9 @@ pub fn run_sound(net: &[u32], letter: &[u32], low: &[u32], high: &[u32], r: Run)
     requires { ⌜ Laid (netCircuit (now net)) (now net) × Legible (at (now net) lettersPlace) (now letter) (now low) (now high) (r .used) ⌝ }
     ensures { λ x. ⌜ x ≡ runSound (netCircuit (now (net .entry))) (held (now (letter .entry)) (now (low .entry)) (now (high .entry)) (r .used)) (runOf (netCircuit (now (net .entry))) r) ⌝ }
 {
-    let n = net[places::NODES];
-    let k = net[places::LETTERS];
-    let horizon = net[places::HORIZON];
+    let n = net[net::NODES];
+    let k = net[net::LETTERS];
+    let horizon = net[net::HORIZON];
     let time = r.time;
     let used = r.used;
     let values = r.values;
@@ -87,8 +87,8 @@ pub fn time_after(
     requires { ⌜ (done ≤ r .used) × (r .used ≤ length (now least)) × Leasts (at (now net) lettersPlace) (held (now letter) (now low) (now high) (r .used)) done (now least) ⌝ }
     ensures { λ x. ⌜ (x ≡ timeAfter (netCircuit (now (net .entry))) (momentGiven (columns (now (letter .entry)) (now (low .entry)) (now (high .entry))) (runOf (netCircuit (now (net .entry))) r))) × (length (now (least .exit)) ≡ length (now (least .entry))) × Leasts (at (now (net .entry)) lettersPlace) (held (now (letter .entry)) (now (low .entry)) (now (high .entry)) (r .used)) (r .used) (now (least .exit)) ⌝ }
 {
-    let n = net[places::NODES];
-    let k = net[places::LETTERS];
+    let n = net[net::NODES];
+    let k = net[net::LETTERS];
     let time = r.time;
     let used = r.used;
     let changes = r.changes;
@@ -118,7 +118,7 @@ pub fn wire_at(
         };
     }
     let i = (n - 2) as usize;
-    let k = net[places::LETTERS];
+    let k = net[net::LETTERS];
     let used = r.used;
     let values = r.values;
     let changes = r.changes;

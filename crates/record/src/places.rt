@@ -10,18 +10,6 @@ ghost use Rattle.net.specs.Laid.{Laid};
 ghost use Rattle.record.specs.Numbers.{restsAt, afterNow, scheduledAfter};
 ghost use lib.Dec.{eqb};
 
-pub const NODES: usize = 0;
-
-pub const ENTRIES: usize = 2;
-
-pub const LETTERS: usize = 3;
-
-pub const HORIZON: usize = 4;
-
-const ROLE: usize = 8;
-
-const TIME: usize = 528;
-
 const INPUT: u32 = 1;
 
 const NEVER_ENTRY: u32 = 2;
@@ -38,10 +26,10 @@ pub fn inputs_rest(net: &[u32], changes: [u32; 24]) -> bool
     requires { ⌜ Laid (netCircuit (now net)) (now net) ⌝ }
     ensures { λ r. ⌜ r ≡ below (at (now (net .entry)) nodesPlace) (restsAt (now (net .entry)) changes) ⌝ }
 {
-    let n = net[NODES] as usize;
+    let n = net[net::NODES] as usize;
     let mut i = 0;
     while i < n {
-        if !rests(net[ROLE + i], changes[i]) {
+        if !rests(net[net::ROLE + i], changes[i]) {
             return false;
         }
         i += 1;
@@ -60,11 +48,11 @@ pub fn scheduled_after(net: &[u32], present: u32) -> u32
     requires { ⌜ Laid (netCircuit (now net)) (now net) ⌝ }
     ensures { λ r. ⌜ r ≡ scheduledAfter (now (net .entry)) present ⌝ }
 {
-    let n = net[ENTRIES] as usize;
+    let n = net[net::ENTRIES] as usize;
     let mut earliest = numbers::NEVER;
     let mut i = 0;
     while i < n {
-        earliest = numbers::least(earliest, after_now(present, net[TIME + i]));
+        earliest = numbers::least(earliest, after_now(present, net[net::TIME + i]));
         i += 1;
     }
     earliest

@@ -10,7 +10,6 @@ use lib.ListN.{length, getD}
 use lib.Dec.{eqb}
 use borrow.Author.Tests.{eqb-true, eq-eqb, ne-eqb}
 use Rattle.lists.proofs.Cases.{bool-cases, and-left, and-right, and-both, or-cases, or-left, or-right, true-false, bool-ext}
-pub use Rattle.lists.proofs.Cases.{or-right as or-second}
 use Rattle.format.specs.declared.Transistor.{Transistor}
 use Rattle.format.specs.Circuit.{Circuit, noTransistor}
 use Rattle.format.proofs.Legal.{LegalTransistor, LegalCell}

@@ -18,7 +18,6 @@ use Rattle.rules.specs.State.{valueAt, changeAt, isDriven}
 use Rattle.rules.specs.Sum.{isThe}
 use Rattle.net.specs.Net.{nodesPlace, rolePlace, capacitancePlace, netNode, netCircuit, at}
 use Rattle.net.proofs.Laying.{node-at}
-pub use Rattle.net.proofs.Laying.{nodes-length as net-nodes, transistors-length as net-transistors, transistor-at as net-transistor}
 use Rattle.walk.specs.Leaf.{leafState, fromOf}
 use Rattle.walk.specs.Ready.{Leaf}
 
