@@ -1,7 +1,7 @@
 -- The descent: roots without those that do not matter, terminals, and the halves at the least letter.
 use mathlib.Core.Path.{_≡_, refl, sym, _∙_, ap, subst}
 use mathlib.Core.Logic.{⊎-elim}
-use mathlib.Core.List.{List, [], _∷_, map}
+use mathlib.Core.List.{List, map}
 use mathlib.Core.Bool.{Bool, true, false, cond}
 use Prim.Native.Nat.{ℕ, suc, _+_, _-_, _/_, _^_, _<_, _≤_}
 use native.Mathlib.Omega.{arith}
@@ -65,11 +65,6 @@ module _ {k : ℕ} {l w h : List ℕ} {used : ℕ} (o : Legible k l w h used) wh
 
   pub zero-low : getD w 0 0 ≡ 0
   zero-low = sym (low-at o 0 zero-within) ∙ ap (λ (x : Entry). x .low) (legible-sound o .zeroth)
-
--- roots, one after the other, from what holds at each place
-roots-of : (t : Table) (m : ℕ) (es : List ℕ) → ((j : ℕ) → j < length es → (getD es j 0 < length t) × (m ≤ entryAt t (getD es j 0) .letter)) → shannon.Roots t m es
-roots-of t m [] h = shannon.none
-roots-of t m (e ∷ es) h = let here = h 0 (omega arith) in shannon.root (here .0) (here .1) (roots-of t m es (λ j g. h (suc j) (omega arith)))
 
 -- a function of one of two things
 cond-both : (F : List ℕ → ℕ) (b : Bool) (x y : List ℕ) → F (cond b x y) ≡ cond b (F x) (F y)
@@ -229,7 +224,7 @@ module _ {net : List ℕ} {n k : ℕ} {l w h : List ℕ} {used : ℕ} {roots : L
       high-ready f = half-ready 1 (omega arith) (high-half f)
 
       all-roots : shannon.Roots t m roots
-      all-roots = roots-of t m roots (λ j g. (omega (arith, within j (omega (arith, r .long)), long), from-letter j (omega (arith, r .long))))
+      all-roots = shannon.roots-of t m roots (λ j g. (omega (arith, within j (omega (arith, r .long)), long), from-letter j (omega (arith, r .long))))
 
       -- and make the function
       pub going-halves : {a b : List ℕ} → HalfOf l w roots m a → HalfOf l h roots m b → (time : ℕ) (u : Table) → Sound k u
