@@ -28,6 +28,7 @@ use Rattle.functions.specs.Open.{Open}
 use Rattle.functions.proofs.Carry.{open-next}
 use Rattle.net.specs.Net.{lettersPlace, at, netCircuit}
 use Rattle.net.specs.Laid.{Laid}
+use Rattle.net.proofs.Laying.{letters-at}
 use Rattle.record.specs.declared.Run.{Run}
 use Rattle.record.specs.Record.{runOf}
 use Rattle.moment.specs.Next.{NextAs}
@@ -35,11 +36,6 @@ use Rattle.advance.specs.declared.Task.the-variants.{Start, Step, Until}
 use Rattle.advance.specs.Task.{taskCall}
 use Rattle.advance.specs.Went.{WentAs}
 use Rattle.advance.specs.Reached.{Together, Left, Reached, Closed}
-
--- the letters of the cell stand at their place
-pub letters-at : (net : List ℕ) → netCircuit net .letters ≡ at net lettersPlace
-unfolding netCircuit
-letters-at net = refl
 
 -- a table that was found sound is open to storing
 pub judged-open : {net l w h ix : List ℕ} {used : ℕ} {x : Bool} → Laid (netCircuit net) net → Judged (at net lettersPlace) l w h used ix x → x ≡ true

@@ -26,6 +26,7 @@ use Rattle.functions.specs.Open.{Open}
 use Rattle.functions.proofs.Carry.{open-next}
 use Rattle.net.specs.Net.{lettersPlace, horizonPlace, at, netCircuit}
 use Rattle.net.specs.Laid.{Laid}
+use Rattle.net.proofs.Laying.{letters-at, horizon-at}
 use Rattle.record.specs.declared.Run.{Run}
 use Rattle.record.specs.Record.{runOf, recordOf}
 use Rattle.record.specs.Leasts.{Leasts}
@@ -33,7 +34,6 @@ use Rattle.record.proofs.Record.{run-of-record}
 use Rattle.record.proofs.Leasts.{leasts-extends}
 use Rattle.moment.specs.Next.{NextAs}
 use Rattle.advance.specs.Reached.{Reached}
-use Rattle.advance.proofs.Ends.{letters-at}
 
 -- the moment that columns and a run hold
 abbrev pub momentIn : List ℕ → List ℕ → List ℕ → List ℕ → Run → Moment
@@ -59,11 +59,6 @@ pub record Going (net : List ℕ) (until : ℕ) (l₀ w₀ h₀ : List ℕ) (r�
   pub kept : Extends (tableOf (columns l₀ w₀ h₀) (r₀ .used)) (tableOf (columns l w h) (r .used))
   pub left : ran (netCircuit net) until (length l₀) (momentGiven (columns l₀ w₀ h₀) (runOf (netCircuit net) r₀))
       ≡ ran (netCircuit net) until (length l₀) (momentGiven (columns l w h) (runOf (netCircuit net) r))
-
--- the horizon of the cell stands at its place
-pub horizon-at : (net : List ℕ) → netCircuit net .horizon .0 ≡ at net horizonPlace
-unfolding netCircuit
-horizon-at net = refl
 
 -- working of the same lengths is as good
 pub sized-same : {l w h ix l′ w′ h′ ix′ : List ℕ} → Sized l w h ix → length l′ ≡ length l → length w′ ≡ length w → length h′ ≡ length h → length ix′ ≡ length ix → Sized l′ w′ h′ ix′

@@ -18,6 +18,7 @@ use Rattle.rules.proofs.State.{Numbered, Shaped}
 use Rattle.rules.proofs.Forest.{numbered}
 use Rattle.rules.proofs.Local.{only, touches}
 use Rattle.walk.specs.Leaf.{keptBy, leafState}
+use Rattle.walk.proofs.Arms.{by-ext}
 use Rattle.descent.specs.Settle.{isOf}
 
 module _ (flag : ℕ → Bool) (i : ℕ) (t : Transistor) (ts : List Transistor) where
@@ -60,12 +61,6 @@ by-flagged flag i (t ∷ ts) k m = by (λ r. wider (by-flagged flag (suc i) ts k
         → List·Memᴰ k (cond b (numbered i t ∷ keptBy flag (suc i) ts) (keptBy flag (suc i) ts)) → Flagged flag i (t ∷ ts) k
     by below true e at = ⊎-elim (λ (q : k ≡ numbered i t). first e q) below (List·Memᴰ·cases-cons at)
     by below false e at = below at
-
--- flags that agree give the same channels
-pub by-ext : (f g : ℕ → Bool) (i : ℕ) (ts : List Transistor) → ((j : ℕ) → i ≤ j → j < i + length ts → f j ≡ g j) → keptBy f i ts ≡ keptBy g i ts
-unfolding keptBy
-by-ext f g i [] h = refl
-by-ext f g i (t ∷ ts) h = rw (h i (omega arith) (omega arith), by-ext f g (suc i) ts (λ j l m. h j (omega arith) (omega arith)))
 
 -- flags that agree at the transistors that touch a set give the same channels there
 pub by-only : (P : ℕ → Bool) (f g : ℕ → Bool) (i : ℕ) (ts : List Transistor)

@@ -14,7 +14,7 @@ use Rattle.walk.specs.Ready.{Net, Ready}
 use Rattle.net.proofs.Laying.{nodes-length, transistors-length}
 use Rattle.descent.specs.Settle.{isTouched, pendingOf, settledAt}
 use Rattle.descent.specs.Descend.{Settleable}
-use Rattle.descent.proofs.Channels.{by-ext}
+use Rattle.walk.proofs.Arms.{by-ext}
 
 module _ {net : List ℕ} {n : ℕ} {numbers : List ℕ} (h : Settleable net n numbers) where
   abbrev c : Circuit

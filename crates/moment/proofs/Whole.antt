@@ -21,6 +21,7 @@ use Rattle.rules.proofs.State.{Numbered}
 use Rattle.rules.proofs.Moment.{RunSound, run-record, legal-few, storedValues}
 use Rattle.net.specs.Net.{nodesPlace, lettersPlace, at, netCircuit}
 use Rattle.net.specs.Laid.{Laid}
+use Rattle.net.proofs.Laying.{letters-at}
 use Rattle.record.specs.declared.Run.{Run}
 use Rattle.record.specs.Record.{runOf}
 use Rattle.record.specs.Leasts.{Leasts}
@@ -31,11 +32,6 @@ use Rattle.moment.specs.ByNode.{ByNode, Gathers}
 use Rattle.moment.specs.Next.{NextAs}
 use Rattle.moment.proofs.Moments.{values-over, mid-open, mid-next}
 use Rattle.moment.proofs.Entries.{after, step-entries, step-leasts, step-functions, start-entries, start-leasts, start-functions}
-
--- the letters of the cell
-letters-are : (net : List ℕ) → netCircuit net .letters ≡ at net lettersPlace
-unfolding netCircuit
-letters-are net = refl
 
 -- as many node records as the column counts
 by-count : (net : List ℕ) {ground supply : ℕ} {entries out : List ℕ} → ByNode ground supply entries (at net nodesPlace) out → ByNode ground supply entries (length (netCircuit net .nodes)) out
@@ -59,7 +55,7 @@ module _ {net l w h ix : List ℕ} {old : ℕ} (k : Laid (netCircuit net) net) (
   nodes = omega (arith, nodes-count net, nodes-few)
 
   sound : Sound (c .letters) t
-  sound = subst (λ (m : ℕ). Sound m t) (sym (letters-are net)) (legible-sound (io .legible))
+  sound = subst (λ (m : ℕ). Sound m t) (sym (letters-at net)) (legible-sound (io .legible))
 
   -- a start whose values are stored
   module _ {l₁ w₁ h₁ ix₁ : List ℕ} {full : Bool} {used : ℕ} {entries : List ℕ}
@@ -68,7 +64,7 @@ module _ {net l w h ix : List ℕ} {old : ℕ} (k : Laid (netCircuit net) net) (
     firsts =
         subst
         (λ (m : ℕ). OutcomeAll t (storeAll m (map (λ (n : ℕ) (p : ℕ). valueAt (started c p) n) (nodeNumbers c)) t) l₁ w₁ h₁ ix₁ full used entries)
-        (sym (letters-are net)) o
+        (sym (letters-at net)) o
 
     -- without room
     pub start-over : full ≡ true → {none : Bool} (r : Run) → none ≡ true → NextAs (tableOf (columns l w h) old) (startMoment (netCircuit net) (tableOf (columns l w h) old)) l₁ w₁ h₁ ix₁ none r
@@ -77,17 +73,17 @@ module _ {net l w h ix : List ℕ} {old : ℕ} (k : Laid (netCircuit net) net) (
 
     module _ (fits : full ≡ false) {oa : List ℕ} (a : ByNode 0 1 entries (at net nodesPlace) oa) where
       pub start-open : Open (at net lettersPlace) l₁ w₁ h₁ ix₁ used
-      start-open = subst (λ (m : ℕ). Open m l₁ w₁ h₁ ix₁ used) (letters-are net) (mid-open c 0 (started c) t few sound firsts fits)
+      start-open = subst (λ (m : ℕ). Open m l₁ w₁ h₁ ix₁ used) (letters-at net) (mid-open c 0 (started c) t few sound firsts fits)
 
       pub start-requires : ValueEntries (at net lettersPlace) (tableOf (columns l₁ w₁ h₁) used) used oa × ValueEntries (at net lettersPlace) (tableOf (columns l₁ w₁ h₁) used) used oa × PendingEntries used (replicate 26 2)
       start-requires =
           let u : Table = tableOf (columns l₁ w₁ h₁) used in
-          subst (λ (m : ℕ). ValueEntries m u used oa × ValueEntries m u used oa × PendingEntries used (replicate 26 2)) (letters-are net) (start-entries c nodes few t sound firsts fits (by-count net a))
+          subst (λ (m : ℕ). ValueEntries m u used oa × ValueEntries m u used oa × PendingEntries used (replicate 26 2)) (letters-at net) (start-entries c nodes few t sound firsts fits (by-count net a))
 
       pub start-pending : {least : List ℕ} → length least ≡ 3 → getD least 0 0 ≡ 0 → getD least 1 0 ≡ 1 → getD least 2 0 ≡ never
           → PendingLeasts (at net lettersPlace) (tableOf (columns l₁ w₁ h₁) used) (replicate 26 2) least
       start-pending {least} long ground supply rest =
-          subst (λ (m : ℕ). PendingLeasts m (tableOf (columns l₁ w₁ h₁) used) (replicate 26 2) least) (letters-are net) (start-leasts c nodes few t sound firsts fits (by-count net a) long ground supply rest)
+          subst (λ (m : ℕ). PendingLeasts m (tableOf (columns l₁ w₁ h₁) used) (replicate 26 2) least) (letters-at net) (start-leasts c nodes few t sound firsts fits (by-count net a) long ground supply rest)
 
       -- and its next changes
       pub start-next : {l₂ w₂ h₂ ix₂ : List ℕ} {full₂ : Bool} {used₂ : ℕ} {entries₂ : List ℕ} {none : Bool} {r : Run}
@@ -98,7 +94,7 @@ module _ {net l w h ix : List ℕ} {old : ℕ} (k : Laid (netCircuit net) net) (
       start-next {l₂} {w₂} {h₂} {ix₂} {full₂} {used₂} {entries₂} o₂ g =
           let u : Table = tableOf (columns l₁ w₁ h₁) used in
           mid-next c 0 (started c) t few sound firsts fits (start-functions c nodes few t sound firsts fits (by-count net a))
-          (subst (λ (m : ℕ). OutcomeAll u (storeAll m (map (changeOf c 0 true m u oa oa (replicate 26 2)) (nodeNumbers c)) u) l₂ w₂ h₂ ix₂ full₂ used₂ entries₂) (sym (letters-are net)) o₂) g
+          (subst (λ (m : ℕ). OutcomeAll u (storeAll m (map (changeOf c 0 true m u oa oa (replicate 26 2)) (nodeNumbers c)) u) l₂ w₂ h₂ ix₂ full₂ used₂ entries₂) (sym (letters-at net)) o₂) g
 
 -- a step whose values are stored
 module _ {net l w h ix : List ℕ} (r : Run) (k : Laid (netCircuit net) net) (io : Open (at net lettersPlace) l w h ix (r .used))
@@ -123,7 +119,7 @@ module _ {net l w h ix : List ℕ} (r : Run) (k : Laid (netCircuit net) net) (io
     values =
         subst
         (λ (m : ℕ). OutcomeAll v (storeAll m (map (λ (n : ℕ) (p : ℕ). valueAt (after d time v r p) n) (nodeNumbers d)) v) l₁ w₁ h₁ ix₁ full used entries)
-        (sym (letters-are net)) o
+        (sym (letters-at net)) o
 
     -- without room
     pub step-over : full ≡ true → {none : Bool} (x : Run) → none ≡ true
@@ -132,20 +128,20 @@ module _ {net l w h ix : List ℕ} (r : Run) (k : Laid (netCircuit net) net) (io
 
     module _ (fits : full ≡ false) {ob oa op : List ℕ} (b : ByNode 0 1 (r .values) (at net nodesPlace) ob) (a : ByNode 0 1 entries (at net nodesPlace) oa) (g : ByNode 2 2 (r .changes) (at net nodesPlace) op) where
       pub step-open : Open (at net lettersPlace) l₁ w₁ h₁ ix₁ used
-      step-open = subst (λ (m : ℕ). Open m l₁ w₁ h₁ ix₁ used) (letters-are net) (mid-open d time (after d time v r) v (few k io) (sound k io) values fits)
+      step-open = subst (λ (m : ℕ). Open m l₁ w₁ h₁ ix₁ used) (letters-at net) (mid-open d time (after d time v r) v (few k io) (sound k io) values fits)
 
       pub step-requires : ValueEntries (at net lettersPlace) (tableOf (columns l₁ w₁ h₁) used) used ob × ValueEntries (at net lettersPlace) (tableOf (columns l₁ w₁ h₁) used) used oa × PendingEntries used op
       step-requires =
           let u : Table = tableOf (columns l₁ w₁ h₁) used in
-          subst (λ (m : ℕ). ValueEntries m u used ob × ValueEntries m u used oa × PendingEntries used op) (letters-are net)
+          subst (λ (m : ℕ). ValueEntries m u used ob × ValueEntries m u used oa × PendingEntries used op) (letters-at net)
           (step-entries d (nodes k io) (few k io) v (sound k io) r facts time values fits (by-count net b) (by-count net a) (by-count net g))
 
       pub step-pending : {least : List ℕ} → Leasts (at net lettersPlace) (tableOf (columns l w h) (r .used)) (r .used) least → PendingLeasts (at net lettersPlace) (tableOf (columns l₁ w₁ h₁) used) op least
       step-pending {least} z =
           let whole : Leasts (at net lettersPlace) v (length v) least = rw (legible-long (io .legible)) z in
-          subst (λ (m : ℕ). PendingLeasts m (tableOf (columns l₁ w₁ h₁) used) op least) (letters-are net)
+          subst (λ (m : ℕ). PendingLeasts m (tableOf (columns l₁ w₁ h₁) used) op least) (letters-at net)
           (step-leasts d (nodes k io) (few k io) v (sound k io) r facts time values fits (by-count net b) (by-count net a) (by-count net g)
-          (subst (λ (m : ℕ). Leasts m v (length v) least) (sym (letters-are net)) whole))
+          (subst (λ (m : ℕ). Leasts m v (length v) least) (sym (letters-at net)) whole))
 
       -- and its next changes
       pub step-next : {l₂ w₂ h₂ ix₂ : List ℕ} {full₂ : Bool} {used₂ : ℕ} {entries₂ : List ℕ} {none : Bool} {x : Run}
@@ -157,4 +153,4 @@ module _ {net l w h ix : List ℕ} (r : Run) (k : Laid (netCircuit net) net) (io
           let same : (n : ℕ) → Numbered d n → (p : ℕ) → p < patterns (d .letters) → changeOf d time false (d .letters) (tableOf (columns l₁ w₁ h₁) used) ob oa op n p ≡ changeAt (after d time v r p) n =
           step-functions d (nodes k io) (few k io) v (sound k io) r facts time values fits (by-count net b) (by-count net a) (by-count net g) in
           rw moment-is at (mid-next d time (after d time v r) v (few k io) (sound k io) values fits same
-          (subst (λ (m : ℕ). OutcomeAll u (storeAll m (map (changeOf d time false m u ob oa op) (nodeNumbers d)) u) l₂ w₂ h₂ ix₂ full₂ used₂ entries₂) (sym (letters-are net)) o₂) q)
+          (subst (λ (m : ℕ). OutcomeAll u (storeAll m (map (changeOf d time false m u ob oa op) (nodeNumbers d)) u) l₂ w₂ h₂ ix₂ full₂ used₂ entries₂) (sym (letters-at net)) o₂) q)

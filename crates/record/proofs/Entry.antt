@@ -9,7 +9,7 @@ use lib.ListN.{length, getD}
 use lib.Pow.{pow-pos}
 use borrow.Author.Tests.{lt-ltb, le-ltb}
 use Rattle.lists.specs.Tests.{below}
-use Rattle.lists.proofs.Cases.{and-left, and-right, and-both}
+use Rattle.lists.proofs.Cases.{and-left, and-right, and-both, bool-ext}
 use Rattle.lists.proofs.Below.{below-each, each-below}
 use Rattle.diagram.specs.Pattern.{patterns}
 use Rattle.diagram.specs.Table.{never, terminalLetter, entryAt, numberAt}
@@ -20,7 +20,6 @@ use Rattle.functions.specs.Open.{Legible}
 use Rattle.functions.proofs.Carry.{legible-sound, legible-long, letter-at, low-at, high-at}
 use Rattle.functions.proofs.Reading.{number-leaf}
 use Rattle.record.specs.Numbers.{held, among, allAmong, entryAmong, leastOf}
-use Rattle.record.proofs.Loops.{same-tests}
 use Rattle.record.proofs.LeastBelow.{least-never, least-greatest}
 
 module _ {letters : ℕ} {l w h : List ℕ} {used : ℕ} (o : Legible letters l w h used) (e : ℕ) (g : e < used) where
@@ -41,7 +40,7 @@ module _ {letters : ℕ} {l w h : List ℕ} {used : ℕ} (o : Legible letters l 
     among-leaf after most other =
         let is : ℕ → Type 0 = λ (x : ℕ). among after most other x ≡ true in
         let test : ℕ → Bool = λ (p : ℕ). among after most other (numberAt letters (held l w h used) e p) in
-        same-tests (among after most other (getD w e 0)) (below (patterns letters) test)
+        bool-ext (among after most other (getD w e 0)) (below (patterns letters) test)
         (λ a. each-below (patterns letters) test (λ p i. subst is (sym (end p)) a))
         (λ a. subst is (end 0) (below-each (patterns letters) test a 0 (pow-pos letters)))
 
@@ -67,7 +66,7 @@ module _ {letters : ℕ} {l w h : List ℕ} {used : ℕ} (o : Legible letters l 
         let is : ℕ → Type 0 = λ (x : ℕ). among after most other x ≡ true in
         let test : ℕ → ℕ → Bool = λ (i p : ℕ). among after most other (numberAt letters (held l w h used) i p) in
         let all : ℕ → Bool = λ (i : ℕ). below (patterns letters) (test i) in
-        same-tests (all e) (all (getD w e 0) && all (getD h e 0))
+        bool-ext (all e) (all (getD w e 0) && all (getD h e 0))
         (λ a.
         let parts = values is .0 (below-each (patterns letters) (test e) a) in
         and-both (all (getD w e 0)) (all (getD h e 0)) (each-below (patterns letters) (test (getD w e 0)) (parts .0)) (each-below (patterns letters) (test (getD h e 0)) (parts .1)))

@@ -9,16 +9,10 @@ use native.Mathlib.Omega.{arith}
 use lib.ListN.{length, getD, take}
 use lib.Seq.{getD-take, length-take-le}
 use Rattle.lists.specs.Tests.{below}
-use Rattle.lists.proofs.Cases.{bool-cases, and-both, true-false}
+use Rattle.lists.proofs.Cases.{bool-cases, and-both, true-false, bool-ext}
 use Rattle.lists.proofs.Below.{below-each, each-below}
 use Rattle.format.specs.Circuit.{every}
 use Rattle.format.proofs.Every.{every-at, every-of}
-
--- tests that pass together are equal
-pub same-tests : (a b : Bool) → (a ≡ true → b ≡ true) → (b ≡ true → a ≡ true) → a ≡ b
-same-tests true b f g = sym (f refl)
-same-tests false true f g = g refl
-same-tests false false f g = refl
 
 -- nothing looked at yet
 pub loop-starts : (test : ℕ → Bool) → below 0 test ≡ true
@@ -47,7 +41,7 @@ pub every-below : (test : ℕ → Bool) (n : ℕ) (xs : List ℕ) → n ≤ leng
 every-below test n xs h =
     let long : length (take n xs) ≡ n = length-take-le n xs h in
     let at : (i : ℕ) → i < n → getD (take n xs) i 0 ≡ getD xs i 0 = λ i l. getD-take n xs i 0 l in
-    same-tests (every test (take n xs)) (below n (λ i. test (getD xs i 0)))
+    bool-ext (every test (take n xs)) (below n (λ i. test (getD xs i 0)))
     (λ a. each-below n (λ i. test (getD xs i 0)) (λ i l. subst (λ (x : ℕ). test x ≡ true) (at i l) (every-at test (take n xs) a 0 i (omega arith))))
     (λ a.
     every-of test (take n xs) 0 (λ i l.
