@@ -32,11 +32,10 @@ use Rattle.rules.specs.Kept.{Channel, conducts, keeps, afterKept, keptFrom, kep
 use Rattle.rules.specs.Sum.{Sum, leads, farEnd, overArms, drivenSum, ownSum, armOf, joinSums, nodeSum, newValue}
 use Rattle.rules.specs.Delay.{Load, drivenLoad, ownLoad, loadArm, joinLoads, nodeLoad}
 use Rattle.rules.specs.Step.{target, delayTo, inHorizon, nextChange, stepped, initial, started}
-use Rattle.rules.specs.Run.{soonest, patternTime, nextTime}
+use Rattle.rules.specs.Run.{soonest, patternTime}
 use Rattle.rules.proofs.State.{Numbered, numbers-same}
 use Rattle.rules.proofs.Arrive.{source-constant, source-letter, some-same, steppedChange, steppedFrom, stepped-from}
 use Rattle.rules.proofs.Step.{startedChange, startedFrom, started-from}
-use Rattle.rules.proofs.Time.{next-least, next-own}
 use Rattle.commute.specs.Demand.{setLetter, fixedPattern}
 
 -- what a setting makes of a letter
@@ -346,16 +345,3 @@ module _ (φ : Fixing) (c : Circuit) (legal : checkCircuit c ≡ answered c) whe
       stepped-alike (fixed-alike φ c) time q (fixedPattern φ (c .letters) q) s
       (λ n. ap (λ (es : List Entry). scheduled es time n q (valueAt s n)) schedule-is
       ∙ scheduled-fixed φ (c .letters) (c .schedule) (λ i h. legal-entry legal i h .source-is) time n q (valueAt s n))
-
--- T of the cell is at most T of the fixed cell, where each pattern's state is that of the pattern with the letters fixed
-pub next-time-fixed : (φ : Fixing) (c : Circuit) (now : ℕ) (states others : ℕ → State)
-    → ((q : ℕ) → q < patterns (c .letters) → others q ≡ states (fixedPattern φ (c .letters) q))
-    → nextTime c now states ≤ nextTime (fixed φ c) now others
-unfolding fixed
-next-time-fixed φ c now states others same =
-    let own = next-own (fixed φ c) now others in
-    let q : ℕ = own .0 in
-    let p : ℕ = fixedPattern φ (c .letters) q in
-    let is : patternTime (fixed φ c) now (others q) ≡ patternTime c now (states p) =
-    pattern-time-fixed φ c now (others q) ∙ ap (patternTime c now) (same q (own .1)) in
-    omega (arith, own .2, next-least c now states p (pattern-lt φ (c .letters) (c .letters) q (omega arith) (own .1)))

@@ -12,7 +12,6 @@ use Rattle.refusal.specs.declared.Reply.{Reply}
 use Rattle.refusal.specs.declared.Reply.the-variants.{Done, Refused}
 use Rattle.refusal.specs.Answer.{Answer, refused, answered}
 use Rattle.format.specs.Circuit.{Circuit}
-use Rattle.diagram.specs.Table.{Table}
 use Rattle.diagram.specs.Call.{Columns, lengthsLegal, columnsSound, tableOf}
 use Rattle.rules.specs.State.{valueAt, changeAt}
 use Rattle.rules.specs.Run as defined
@@ -49,9 +48,6 @@ asked-cell why table run n p {reply} {value} {change} e x = asked-refused (askCa
 module _ (net l w h : List ℕ) (r : Run) (n p : ℕ) (laid : Laid (netCircuit net) net) (legal : lengthsLegal (columns l w h) ≡ true) where
   abbrev c : Circuit
   c = netCircuit net
-
-  abbrev t : Table
-  t = tableOf (columns l w h) (r .used)
 
   abbrev call : Answer Wire
   call = askCall (answered c) (columns l w h) (runOf c r) n p
