@@ -25,7 +25,7 @@ use Rattle.rules.proofs.RunSteps.{fitting-fits, fitting-full}
 use Rattle.table.specs.Holds.{columns, Holds, Kept, Judged, zeroFrom}
 use Rattle.table.proofs.Clearing.{kept-restored}
 use Rattle.functions.specs.Open.{Open}
-use Rattle.functions.proofs.Carry.{open-next}
+use Rattle.functions.proofs.Carry.{judged-open}
 use Rattle.net.specs.Net.{lettersPlace, at, netCircuit}
 use Rattle.net.specs.Laid.{Laid}
 use Rattle.net.proofs.Laying.{letters-at}
@@ -36,13 +36,6 @@ use Rattle.advance.specs.declared.Task.the-variants.{Start, Step, Until}
 use Rattle.advance.specs.Task.{taskCall}
 use Rattle.advance.specs.Went.{WentAs}
 use Rattle.advance.specs.Reached.{Together, Left, Reached, Closed}
-
--- a table that was found sound is open to storing
-pub judged-open : {net l w h ix : List ℕ} {used : ℕ} {x : Bool} → Laid (netCircuit net) net → Judged (at net lettersPlace) l w h used ix x → x ≡ true
-    → Open (at net lettersPlace) l w h ix used
-judged-open {net} {l} {w} {h} {ix} {used} laid j e =
-    let s : ColumnsSound (at net lettersPlace) (columns l w h) used = columns-record (at net lettersPlace) (columns l w h) used (sym (j .is) ∙ e) in
-    open-next (laid .within .letters) (s .table) (j .holds e)
 
 -- a start or a step, as a task leaves it
 pub next-reached : {t : Table} {m : Moment} {l w h ix : List ℕ} {full : Bool} {r : Run} (size : ℕ) → length l ≡ size → NextAs t m l w h ix full r
@@ -104,7 +97,7 @@ module _ {net l w h ix : List ℕ} {r : Run} {x : Bool} (laid : Laid (netCircuit
   together-table e = record { is = rw (letters-at net, ← j .is, e); opened = λ o. true-false false o refl }
 
   pub together-run : x ≡ true → (y : Bool) → y ≡ runSound (netCircuit net) (tableOf (columns l w h) (r .used)) (runOf (netCircuit net) r) → Together net l w h ix r y
-  together-run e y o = record { is = o ∙ rw (letters-at net, ← j .is, e); opened = λ _. judged-open laid j e }
+  together-run e y o = record { is = o ∙ rw (letters-at net, ← j .is, e); opened = λ _. judged-open j e (laid .within .letters) }
 
 pub together-sound : {net l w h ix : List ℕ} {r : Run} {x : Bool} → Together net l w h ix r x → x ≡ true
     → runSound (netCircuit net) (tableOf (columns l w h) (r .used)) (runOf (netCircuit net) r) ≡ true

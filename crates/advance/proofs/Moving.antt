@@ -20,7 +20,7 @@ use Rattle.rules.specs.Run.{Moment, timeAfter, stepMoment, fitting, continued, 
 use Rattle.rules.specs.Call.{momentGiven}
 use Rattle.rules.proofs.Moment.{RunSound, SoundMoment, run-record, sound-tests, tests-sound, time-never, time-within, step-time, step-sound, step-extends}
 use Rattle.rules.proofs.RunSteps.{Rests, Takes, ran, fitting-fits, fitting-full, run-rests, run-next}
-use Rattle.table.specs.Holds.{columns, Sized}
+use Rattle.table.specs.Holds.{columns}
 use Rattle.table.proofs.Outcomes.{holds-table, holds-kept, kept-extends}
 use Rattle.functions.specs.Open.{Open}
 use Rattle.functions.proofs.Carry.{open-next}
@@ -59,17 +59,6 @@ pub record Going (net : List ℕ) (until : ℕ) (l₀ w₀ h₀ : List ℕ) (r�
   pub kept : Extends (tableOf (columns l₀ w₀ h₀) (r₀ .used)) (tableOf (columns l w h) (r .used))
   pub left : ran (netCircuit net) until (length l₀) (momentGiven (columns l₀ w₀ h₀) (runOf (netCircuit net) r₀))
       ≡ ran (netCircuit net) until (length l₀) (momentGiven (columns l w h) (runOf (netCircuit net) r))
-
--- working of the same lengths is as good
-pub sized-same : {l w h ix l′ w′ h′ ix′ : List ℕ} → Sized l w h ix → length l′ ≡ length l → length w′ ≡ length w → length h′ ≡ length h → length ix′ ≡ length ix → Sized l′ w′ h′ ix′
-sized-same {ix = ix} {ix′ = ix′} s a b c d = record {
-  least = omega (arith, s .least);
-  most = omega (arith, s .most);
-  low-long = omega (arith, s .low-long);
-  high-long = omega (arith, s .high-long);
-  even = rw d (s .even);
-  room = rw d (omega (arith, s .room));
-}
 
 -- such a moment is sound
 pub standing-sound : {net l w h ix : List ℕ} {r : Run} → Standing net l w h ix r → SoundMoment (netCircuit net) (momentGiven (columns l w h) (runOf (netCircuit net) r))

@@ -9,9 +9,9 @@ use lib.Seq.{take-suc, length-take-le}
 use Rattle.lists.specs.Padded.{padded}
 use Rattle.lists.proofs.Padded.{padded-put}
 use Rattle.net.specs.Net.{nodesPlace, at, netCircuit}
+use Rattle.net.proofs.Laying.{nodes-length}
 use Rattle.record.specs.declared.Run.{Run}
 use Rattle.record.specs.Record.{runOf, recordOf}
-use Rattle.record.proofs.Net.{nodes-count}
 
 -- one entry more
 pub zeros-next : (size n : ℕ) (out entries : List ℕ) → out ≡ padded size 0 (take n entries) → n < size → n < length entries
@@ -25,7 +25,7 @@ zeros-next size n out entries e l k =
 pub run-firsts : (net : List ℕ) (r : Run) (vs cs : List ℕ) → vs ≡ padded 24 0 (take (at net nodesPlace) (r .values)) → cs ≡ padded 24 0 (take (at net nodesPlace) (r .changes))
     → _≡_ {A = Run} (record { time = r .time; used = r .used; values = vs; changes = cs }) (recordOf (runOf (netCircuit net) r))
 run-firsts net r vs cs p q =
-    let n : length (netCircuit net .nodes) ≡ at net nodesPlace = nodes-count net in
+    let n : length (netCircuit net .nodes) ≡ at net nodesPlace = nodes-length net in
     let v : vs ≡ padded 24 0 (take (length (netCircuit net .nodes)) (r .values)) = rw n p in
     let c : cs ≡ padded 24 0 (take (length (netCircuit net .nodes)) (r .changes)) = rw n q in
     λ i. record { time = r .time; used = r .used; values = v i; changes = c i }

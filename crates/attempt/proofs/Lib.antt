@@ -1,4 +1,3 @@
 pub mod Prepared
-pub mod Later
 pub mod Trying
 pub mod First

@@ -21,11 +21,10 @@ use Rattle.rules.proofs.State.{Numbered}
 use Rattle.rules.proofs.Moment.{RunSound, run-record, legal-few, storedValues}
 use Rattle.net.specs.Net.{nodesPlace, lettersPlace, at, netCircuit}
 use Rattle.net.specs.Laid.{Laid}
-use Rattle.net.proofs.Laying.{letters-at}
+use Rattle.net.proofs.Laying.{nodes-length, letters-at}
 use Rattle.record.specs.declared.Run.{Run}
 use Rattle.record.specs.Record.{runOf}
 use Rattle.record.specs.Leasts.{Leasts}
-use Rattle.record.proofs.Net.{nodes-count}
 use Rattle.values.specs.All.{OutcomeAll}
 use Rattle.changes.specs.Changes.{changeOf, ValueEntries, PendingEntries, PendingLeasts}
 use Rattle.moment.specs.ByNode.{ByNode, Gathers}
@@ -35,7 +34,7 @@ use Rattle.moment.proofs.Entries.{after, step-entries, step-leasts, ste
 
 -- as many node records as the column counts
 by-count : (net : List ℕ) {ground supply : ℕ} {entries out : List ℕ} → ByNode ground supply entries (at net nodesPlace) out → ByNode ground supply entries (length (netCircuit net .nodes)) out
-by-count net b = rw (nodes-count net) b
+by-count net b = rw (nodes-length net) b
 
 module _ {net l w h ix : List ℕ} {old : ℕ} (k : Laid (netCircuit net) net) (io : Open (at net lettersPlace) l w h ix old) where
   abbrev c : Circuit
@@ -52,7 +51,7 @@ module _ {net l w h ix : List ℕ} {old : ℕ} (k : Laid (netCircuit net) net) (
   nodes-few = k .within .nodes
 
   nodes : length (c .nodes) ≤ 24
-  nodes = omega (arith, nodes-count net, nodes-few)
+  nodes = omega (arith, nodes-length net, nodes-few)
 
   sound : Sound (c .letters) t
   sound = subst (λ (m : ℕ). Sound m t) (sym (letters-at net)) (legible-sound (io .legible))

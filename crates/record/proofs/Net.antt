@@ -3,7 +3,6 @@ use mathlib.Core.Path.{_≡_, refl, sym, _∙_, ap, ap₂}
 use mathlib.Core.List.{List, [], _∷_, map}
 use mathlib.Core.Bool.{Bool, not, _&&_, _||_, and-assoc, and-true}
 use Prim.Native.Nat.{ℕ, zero, suc, _+_, _-_, _<_}
-use native.Mathlib.Nat.{zero-add}
 use native.Mathlib.Omega.{arith}
 use lib.ListN.{length, getD, length-map}
 use lib.Dec.{eqb}
@@ -11,56 +10,32 @@ use borrow.Author.Tests.{le-leb}
 use Rattle.lists.specs.Tests.{below}
 use Rattle.lists.proofs.Below.{below-ext}
 use Rattle.format.specs.declared.Entry.{Entry}
-use Rattle.format.specs.Circuit.{Circuit, noNode, noEntry}
+use Rattle.format.specs.Circuit.{Circuit, noEntry}
 use Rattle.format.specs.Legal.{isInput, input}
 use Rattle.lists.proofs.Map.{map-at}
 use Rattle.rules.specs.State.{upFrom}
 use Rattle.rules.specs.Run.{inputsRest, neverEntry}
-use Rattle.rules.proofs.State.{up-length, up-at}
-use Rattle.net.specs.Net.{nodesPlace, entriesPlace, rolePlace, timePlace, at, netNode, netEntry, netCircuit}
-
--- the element at a place of a list of records numbered from 0
-numbered-at : {A : Type 0} (f : ℕ → A) (d : A) (n i : ℕ) → i < n → getD (map f (upFrom n 0)) i d ≡ f i
-numbered-at f d n i h = map-at f (upFrom n 0) 0 d i (omega (arith, up-length n 0)) ∙ ap f (up-at n 0 i 0 h ∙ zero-add i)
-
-numbered-length : {A : Type 0} (f : ℕ → A) (n : ℕ) → length (map f (upFrom n 0)) ≡ n
-numbered-length f n = length-map (upFrom n 0) f ∙ up-length n 0
+use Rattle.net.specs.Net.{nodesPlace, entriesPlace, rolePlace, timePlace, at, netCircuit}
+use Rattle.net.proofs.Laying.{schedule-length, node-at, entry-at}
 
 module _ (net : List ℕ) where
-  -- as many node records as the column counts
-  pub nodes-count : length (netCircuit net .nodes) ≡ at net nodesPlace
-  unfolding netCircuit
-  nodes-count = numbered-length (netNode net) (at net nodesPlace)
-
-  node-at : (i : ℕ) → i < at net nodesPlace → getD (netCircuit net .nodes) i noNode ≡ netNode net i
-  unfolding netCircuit
-  node-at i h = numbered-at (netNode net) noNode (at net nodesPlace) i h
-
-  entry-at : (i : ℕ) → i < at net entriesPlace → getD (netCircuit net .schedule) i noEntry ≡ netEntry net i
-  unfolding netCircuit
-  entry-at i h = numbered-at (netEntry net) noEntry (at net entriesPlace) i h
-
-  schedule-count : length (netCircuit net .schedule) ≡ at net entriesPlace
-  unfolding netCircuit
-  schedule-count = numbered-length (netEntry net) (at net entriesPlace)
-
-  -- which of them are inputs
+  -- which node records are inputs
   pub input-at : (i : ℕ) → i < at net nodesPlace → isInput (netCircuit net) (2 + i) ≡ eqb (at net (rolePlace + i)) input
   input-at i h =
       let back : 2 + i - 2 ≡ i = omega arith in
-      rw (le-leb 2 (2 + i) (omega arith), back, node-at i h)
+      rw (le-leb 2 (2 + i) (omega arith), back, node-at net i h)
 
   -- the times of the schedule
   abbrev pub times : List ℕ
   times = map (λ (e : Entry). e .time .0) (netCircuit net .schedule)
 
   pub times-count : length times ≡ at net entriesPlace
-  times-count = length-map (netCircuit net .schedule) (λ (e : Entry). e .time .0) ∙ schedule-count
+  times-count = length-map (netCircuit net .schedule) (λ (e : Entry). e .time .0) ∙ schedule-length net
 
   pub time-at : (i : ℕ) → i < at net entriesPlace → getD times i 0 ≡ at net (timePlace + i)
   time-at i h =
-      map-at (λ (e : Entry). e .time .0) (netCircuit net .schedule) noEntry 0 i (omega (arith, schedule-count))
-      ∙ ap (λ (e : Entry). e .time .0) (entry-at i h)
+      map-at (λ (e : Entry). e .time .0) (netCircuit net .schedule) noEntry 0 i (omega (arith, schedule-length net))
+      ∙ ap (λ (e : Entry). e .time .0) (entry-at net i h)
 
 -- the first of the numbers below a bound, and the others
 below-first : (n : ℕ) (test : ℕ → Bool) → below (suc n) test ≡ (test 0 && below n (λ i. test (suc i)))

@@ -30,12 +30,13 @@ use Rattle.table.specs.Holds.{columns}
 use Rattle.functions.specs.Open.{Legible}
 use Rattle.functions.proofs.Carry.{legible-long}
 use Rattle.net.specs.Net.{nodesPlace, at, netCircuit}
+use Rattle.net.proofs.Laying.{nodes-length}
 use Rattle.record.specs.declared.Run.{Run}
 use Rattle.record.specs.Record.{runOf}
 use Rattle.record.specs.Numbers.{held, among, allAmong, entryAmong, entriesAmong, restsAt, leastAmong, afterNow, scheduledAfter}
 use Rattle.record.proofs.Loops.{every-below}
 use Rattle.record.proofs.LeastBelow.{least-never, least-min, least-constant, least-swap, soonest-at}
-use Rattle.record.proofs.Net.{nodes-count, input-at, times, times-count, time-at, inputs-below}
+use Rattle.record.proofs.Net.{input-at, times, times-count, time-at, inputs-below}
 
 -- 0 or 1
 bit-among : (x : ℕ) → leb x 1 ≡ among 0 1 0 x
@@ -72,7 +73,7 @@ module _ (net l w h : List ℕ) (r : Run) (values-long : length (r .values) ≡ 
   n = length (c .nodes)
 
   count : n ≡ at net nodesPlace
-  count = nodes-count net
+  count = nodes-length net
 
   values-sound : every (λ (e : ℕ). ltb e (length t) && twoValued (c .letters) t e) (take n (r .values)) ≡ entriesAmong (c .letters) t 0 1 0 (r .values) n
   values-sound =

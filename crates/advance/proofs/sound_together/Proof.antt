@@ -1,7 +1,8 @@
 -- `sound_together` meets its contract: the table is judged first, then the run with it. Assumes nothing.
 use borrow.Author.Tests.{not-true, not-false}
 use borrow.Author.Needs.{needs}
-use Rattle.advance.proofs.Ends.{judged-open, together-table, together-run}
+use Rattle.functions.proofs.Carry.{judged-open}
+use Rattle.advance.proofs.Ends.{together-table, together-run}
 use Rattle.advance.proofs.sound_together.Statement.{statement}
 use Rattle.advance.proofs.sound_together.Tie as tie
 
@@ -18,7 +19,7 @@ returns : tie.Need-returns
 returns c = together-table (c .before .before .before .before .before .before .before .before .before .before .before .pre .0) (c .before .before .before .sound .ensures) (not-true _ (c .if1 .taken))
 
 run-sound-requires : tie.Need-run-sound-requires
-run-sound-requires c κs = (c .before .before .before .before .before .before .before .before .before .before .before .pre .0, judged-open (c .before .before .before .before .before .before .before .before .before .before .before .pre .0) (c .before .before .before .sound .ensures) (not-false _ (c .if1 .left)) .legible)
+run-sound-requires c κs = (c .before .before .before .before .before .before .before .before .before .before .before .pre .0, judged-open (c .before .before .before .sound .ensures) (not-false _ (c .if1 .left)) (c .before .before .before .before .before .before .before .before .before .before .before .pre .0 .within .letters) .legible)
 
 same-length-2 : tie.Need-same-length-2
 same-length-2 c = search needs
