@@ -17,7 +17,7 @@ use Rattle.lists.proofs.Cases.{bool-cases, and-right, true-false}
 use Rattle.format.specs.Circuit.{Circuit}
 use Rattle.diagram.specs.Table.{Table, never}
 use Rattle.diagram.specs.Call.{Columns, lengthsLegal, columnsSound, tableOf, columnsOf}
-use Rattle.diagram.proofs.Columns.{ColumnsSound, columns-record, columns-path}
+use Rattle.diagram.proofs.Columns.{columns-path}
 use Rattle.rules.specs.Run.{Moment, startMoment, timeAfter, stepMoment, fitting, runMoment, runSound}
 use Rattle.rules.specs.Call.{workingLegal, momentGiven, startCall, stepCall, runCall}
 use Rattle.rules.proofs.Moment.{time-never}
