@@ -165,7 +165,7 @@ fn main() {
         &designs::carry_chain(12, 100),
     );
     line("carry chain, inputs together", &designs::carry_chain(12, 0));
-    for (first, second) in [(9, 3), (8, 4), (7, 5), (6, 6)] {
+    for (first, second) in [(5, 3), (6, 4), (8, 4), (9, 3), (7, 5), (6, 6)] {
         line(
             &format!("carry chain, additions {first} + {second}"),
             &designs::carry_additions(first, second, 30),
