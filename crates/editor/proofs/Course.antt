@@ -19,7 +19,8 @@ use Rattle.advance.specs.Task.{runIn, taskCall}
 use Rattle.advance.specs.Went.{runAfter}
 use Rattle.run.specs.Done.{DoneAs}
 use Rattle.run.specs.Asked.{AskedAs, valueAfter, changeAfter}
-use Rattle.editor.specs.Runs.{recordIn, taskAnswer, columnAfter, TaskDone, askAnswer, toldAfter, AskDone, columnAfterReply, toldAfterReply}
+use Rattle.editor.specs.Runs.{recordIn, taskAnswer, columnAfter, TaskDone, askAnswer, toldAfter, AskDone}
+use Rattle.editor.specs.Replied.{columnAfterReply, toldAfterReply}
 use Rattle.refusal.proofs.Answer.{reply-number}
 
 module _ (file : List ℕ) (task : Task) (table : Columns) (column : List ℕ) (working : Columns) where

@@ -1,3 +1,4 @@
 pub mod Read
 pub mod Functions
 pub mod Runs
+pub mod Replied

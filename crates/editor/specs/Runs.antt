@@ -6,8 +6,6 @@ use Prim.Native.Nat.{ℕ}
 use lib.ListN.{length, getD, take, drop}
 use lib.Dec.{eqb}
 use Rattle.refusal.specs.declared.Refusal.the-variants.{Buffer}
-use Rattle.refusal.specs.declared.Reply.{Reply}
-use Rattle.refusal.specs.declared.Reply.the-variants.{Done, Refused}
 use Rattle.refusal.specs.Answer.{Answer, refused, answered, check, answerNumber}
 use Rattle.format.specs.Legal.{mostNodes}
 use Rattle.format.specs.File.{readCell}
@@ -84,12 +82,3 @@ toldAfter told (answered w) = w .value ∷ w .change ∷ []
 pub record AskDone (told told′ : List ℕ) (answer : Answer Wire) (number : ℕ) : Type 0 where
   pub number-is : number ≡ answerNumber answer
   pub told-is : told′ ≡ toldAfter told answer
-
--- what is handed over with a reply: the new numbers with an answer, the old ones with a refusal
-abbrev pub columnAfterReply : List ℕ → Run → Reply → List ℕ
-columnAfterReply column r Done = recordColumn r
-columnAfterReply column r (Refused why) = column
-
-abbrev pub toldAfterReply : List ℕ → ℕ → ℕ → Reply → List ℕ
-toldAfterReply told value change Done = value ∷ change ∷ []
-toldAfterReply told value change (Refused why) = told
