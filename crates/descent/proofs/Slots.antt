@@ -46,13 +46,21 @@ same-next {memo} {slot} {roots} {i} h e = record {
       (eq-or-ne j i);
 }
 
--- a free slot, or other roots
-pub looked-none : (memo : List ℕ) (slot : ℕ) (roots : List ℕ) → Looked memo slot roots 0
-looked-none memo slot roots = record { word = λ n. absurd (n refl); key = λ n. absurd (n refl) }
+-- a free slot
+pub looked-free : {memo : List ℕ} {slot : ℕ} (roots : List ℕ) → getD memo slot 0 ≡ 0 → Looked memo slot roots 0
+looked-free roots e = record { word = λ n. absurd (n refl); key = λ n. absurd (n refl); found = λ _. sym e }
+
+-- other roots
+pub looked-other : {memo : List ℕ} {slot : ℕ} {roots : List ℕ} {i : ℕ} → i < 92 → (getD memo (place slot i) 0 ≡ getD roots i 0 → ⊥) → Looked memo slot roots 0
+looked-other {memo} {slot} {roots} {i} h other = record {
+  word = λ n. absurd (n refl);
+  key = λ n. absurd (n refl);
+  found = λ e. absurd (other (sym (slot-at memo slot i h) ∙ ap (λ (xs : List ℕ). getD xs i 0) e));
+}
 
 -- the same roots
 pub looked-same : {memo : List ℕ} {slot : ℕ} {roots : List ℕ} {i : ℕ} → length memo ≡ 5952 → slot < 64 → length roots ≡ 92 → 92 ≤ i → SameTo memo slot roots i → Looked memo slot roots (getD memo slot 0)
-looked-same {memo} {slot} {roots} long small lr le h = record { word = λ _. refl; key = λ _. slot-is memo slot roots long small lr (λ j g. h .is j (omega arith)) }
+looked-same {memo} {slot} {roots} long small lr le h = record { word = λ _. refl; key = λ _. slot-is memo slot roots long small lr (λ j g. h .is j (omega arith)); found = λ _. refl }
 
 -- the first i roots of a slot were replaced
 pub record KeptTo (memo : List ℕ) (slot : ℕ) (roots : List ℕ) (i : ℕ) (out : List ℕ) : Type 0 where

@@ -31,6 +31,7 @@ pub record Memo (F : List ℕ → ℕ → ℕ) (letters : ℕ) (t : Table) (memo
 pub record Looked (memo : List ℕ) (slot : ℕ) (roots : List ℕ) (r : ℕ) : Type 0 where
   pub word : (r ≡ 0 → ⊥) → r ≡ getD memo slot 0
   pub key : (r ≡ 0 → ⊥) → slotRoots memo slot ≡ roots
+  pub found : slotRoots memo slot ≡ roots → r ≡ getD memo slot 0
 
 -- a slot has new roots and their entry; the others are as before
 pub record Remembered (memo : List ℕ) (slot : ℕ) (roots : List ℕ) (e : ℕ) (out : List ℕ) : Type 0 where

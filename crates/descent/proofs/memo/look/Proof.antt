@@ -2,7 +2,7 @@
 use Prim.Native.Nat.{_-_, _≤_}
 use native.Mathlib.Omega.{arith}
 use borrow.Author.Needs.{needs}
-use Rattle.descent.proofs.Slots.{SameTo, same-none, same-next, looked-none, looked-same}
+use Rattle.descent.proofs.Slots.{SameTo, same-none, same-next, looked-free, looked-other, looked-same}
 use Rattle.descent.proofs.memo.look.Statement.{statement}
 use Rattle.descent.proofs.memo.look.Tie as tie
 
@@ -19,7 +19,7 @@ element-copy-out-word : tie.Need-element-copy-out-word Inv-loop μ-loop
 element-copy-out-word c = search needs
 
 returns : tie.Need-returns Inv-loop μ-loop
-returns c = looked-none _ _ _
+returns c = looked-free _ (c .if1 .taken)
 
 mul-from : tie.Need-mul-from Inv-loop μ-loop
 mul-from c = search needs
@@ -46,7 +46,7 @@ element-copy-out-if2-2 : tie.Need-element-copy-out-if2-2 Inv-loop μ-loop
 element-copy-out-if2-2 c = search needs
 
 returns-2 : tie.Need-returns-2 Inv-loop μ-loop
-returns-2 c = looked-none _ _ _
+returns-2 c = looked-other (omega arith) (c .if2 .taken)
 
 add-j : tie.Need-add-j Inv-loop μ-loop
 add-j c = search needs
