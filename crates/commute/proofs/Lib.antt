@@ -1,8 +1,13 @@
-pub mod Trace
 pub mod Fixed
 pub mod Pigeon
 pub mod Later
 pub mod Cover
 pub mod Together
+pub mod Trace
+pub mod Lawful
+pub mod Keeps
+pub mod Begun
 pub mod Order
 pub mod Alone
+pub mod Rules
+pub mod Stands

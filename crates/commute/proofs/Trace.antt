@@ -1,61 +1,75 @@
--- The moments that a run and its list of calls can hold: the start in a fresh table, and each step that fits.
-use mathlib.Core.Path.{_≡_, refl, sym, _∙_, ap, subst}
+-- The moments that a run and its list of calls can hold: the one that it set out from, and each step that fits.
+use mathlib.Core.Path.{_≡_, refl, sym, _∙_, ap}
 use mathlib.Core.Logic.{inl, inr}
 use mathlib.Core.Bool.{Bool, true, _&&_}
-use mathlib.Core.List.{List, [], _∷_}
 use Prim.Native.Nat.{ℕ, _+_, _<_, _≤_}
 use native.Mathlib.Omega.{arith}
 use lib.ListN.{length}
 use lib.Dec.{leb, ltb}
 use borrow.Author.Tests.{le-leb, leb-true, ltb-true, lt-ltb}
-use Rattle.refusal.specs.declared.Refusal.the-variants.{Full, Buffer, Finished, Question}
+use Rattle.refusal.specs.declared.Refusal.the-variants.{Full, Buffer, Unsound, Finished, Question}
 use Rattle.refusal.specs.Answer.{Answer, refused, answered, check}
-use Rattle.lists.proofs.Cases.{and-right, and-both}
+use Rattle.refusal.proofs.Answer.{same-answer, check-passed}
+use Rattle.lists.proofs.Cases.{and-left, and-right, and-both}
 use Rattle.format.specs.Circuit.{Circuit, firstNodeNumber}
 use Rattle.format.specs.Legal.{checkCircuit}
-use Rattle.refusal.proofs.Answer.{refused-not-answered, same-answer, check-passed}
-use Rattle.format.proofs.Check.{check-same}
 use Rattle.diagram.specs.Pattern.{patterns}
 use Rattle.diagram.specs.Table.{never}
 use Rattle.diagram.specs.Store.{fresh}
-use Rattle.diagram.specs.Call.{Columns, leastEntries, mostEntries, lengthsLegal, columnsOf}
-use Rattle.diagram.proofs.Columns.{lengths-test, columns-lengths, columns-length, columns-sound-test, table-columns}
-use Rattle.diagram.proofs.Sound.{sound-test}
+use Rattle.diagram.specs.Call.{Columns, leastEntries, mostEntries, lengthsLegal, tableOf, columnsOf, columnsSound}
+use Rattle.diagram.proofs.Columns.{Lengths, ColumnsSound, lengths-record, lengths-test, columns-record, columns-lengths, columns-length, columns-sound-test, table-columns}
+use Rattle.diagram.proofs.Sound.{Sound, sound-test}
 use Rattle.diagram.proofs.Calls.{fresh-sound}
 use Rattle.rules.specs.Run.{Moment, stateOf, startMoment, timeAfter, stepMoment, fitting}
-use Rattle.rules.specs.Call.{leastWorking, workingLegal, withCell, momentGiven, startCall, stepCall, runCall, askCall}
+use Rattle.rules.specs.Call.{leastWorking, workingLegal, momentGiven, startCall, stepCall, runCall, askCall}
 use Rattle.rules.proofs.Moment.{SoundMoment, start-sound, step-sound, step-time, time-within}
 use Rattle.rules.proofs.Readable.{held-given, held-step, held-run, wireOf, held-ask}
 use Rattle.rules.proofs.RunSteps.{Rests, Takes, Steps, stays, goes, ran, fitting-fits, run-rests, run-refused, run-exact, steps-keep, steps-trans}
-use Rattle.commute.specs.Lists.{Call, step, upTo, Held, freshColumns, startFresh, holding, leaves, afterCall, afterCalls}
-use Rattle.commute.specs.Demand.{Answered, Stands, Reached, NotRefusedUpTo}
 
--- a moment that a run in a fresh table of a length can hold
-pub data Trace (c : Circuit) (size : ℕ) : Moment → Type 0 where
-  started : length (startMoment c fresh .table) ≤ size → Trace c size (startMoment c fresh)
-  stepped : {m : Moment} → Trace c size m → timeAfter c m < never → length (stepMoment c m .table) ≤ size → Trace c size (stepMoment c m)
+-- a sound moment of a legal cell that a run sets out from, in a table of a legal length
+pub record Ground (c : Circuit) (size : ℕ) (m : Moment) : Type 0 where
+  pub legal : checkCircuit c ≡ answered c
+  pub least : leastEntries ≤ size
+  pub most : size ≤ mostEntries
+  pub sound : SoundMoment c m
+  pub fits : length (m .table) ≤ size
 
--- its table fits
-pub trace-fits : {c : Circuit} {size : ℕ} {m : Moment} → Trace c size m → length (m .table) ≤ size
-trace-fits (started l) = l
-trace-fits (stepped t more l) = l
+-- a moment that the run can hold
+pub data Trace (c : Circuit) (size : ℕ) (from : Moment) : Moment → Type 0 where
+  begun : Trace c size from from
+  stepped : {m : Moment} → Trace c size from m → timeAfter c m < never → length (stepMoment c m .table) ≤ size → Trace c size from (stepMoment c m)
 
--- it is sound
-pub trace-sound : {c : Circuit} {size : ℕ} {m : Moment} → checkCircuit c ≡ answered c → Trace c size m → SoundMoment c m
-trace-sound {c} legal (started l) = start-sound legal (fresh-sound (c .letters))
-trace-sound legal (stepped t more l) = step-sound legal (trace-sound legal t) more
+module _ {c : Circuit} {size : ℕ} {from : Moment} (g : Ground c size from) where
+  -- its table fits
+  pub trace-fits : {m : Moment} → Trace c size from m → length (m .table) ≤ size
+  trace-fits begun = g .fits
+  trace-fits (stepped t more l) = l
+
+  -- it is sound
+  pub trace-sound : {m : Moment} → Trace c size from m → SoundMoment c m
+  trace-sound begun = g .sound
+  trace-sound (stepped t more l) = step-sound (g .legal) (trace-sound t) more
+
+  -- so that a run can set out from it too
+  pub trace-ground : {m : Moment} → Trace c size from m → Ground c size m
+  trace-ground t = record { legal = g .legal; least = g .least; most = g .most; sound = trace-sound t; fits = trace-fits t }
+
+  -- each one up to a picosecond is reached by steps
+  pub trace-steps : {m : Moment} → Trace c size from m → (p : ℕ) → m .run .time ≤ p → Steps c p size from m
+  trace-steps begun p h = stays
+  trace-steps (stepped {m = m} t next l) p h =
+      let e = step-time c m in
+      let w = time-within (g .legal) (trace-sound t) next in
+      steps-trans c p size (trace-steps t p (omega arith)) (goes (record { more = next; reach = omega arith }) l stays)
 
 -- steps lead from one to another
-pub steps-trace : {c : Circuit} {until size : ℕ} {m after : Moment} → Steps c until size m after → Trace c size m → Trace c size after
-steps-trace {c} {until} {size} steps t = steps-keep c until size (Trace c size) (λ m k s l. stepped k (s .more) l) steps t
+pub steps-trace : {c : Circuit} {until size : ℕ} {from m after : Moment} → Steps c until size m after → Trace c size from m → Trace c size from after
+steps-trace {c} {until} {size} {from} steps t = steps-keep c until size (Trace c size from) (λ m k s l. stepped k (s .more) l) steps t
 
--- each one up to a picosecond is reached by steps from the start
-pub trace-steps : {c : Circuit} {size : ℕ} {m : Moment} → checkCircuit c ≡ answered c → Trace c size m → (p : ℕ) → m .run .time ≤ p → Steps c p size (startMoment c fresh) m
-trace-steps legal (started l) p h = stays
-trace-steps {c} {size} legal (stepped {m = m} t next l) p h =
-    let e = step-time c m in
-    let w = time-within legal (trace-sound legal t) next in
-    steps-trans c p size (trace-steps legal t p (omega arith)) (goes (record { more = next; reach = omega arith }) l stays)
+-- and what can be held after a moment that can be held can be held
+pub onward : {c : Circuit} {size : ℕ} {from m after : Moment} → Trace c size from m → Trace c size m after → Trace c size from after
+onward t begun = t
+onward t (stepped u more room) = stepped (onward t u) more room
 
 -- no moment both has a next step and has none
 pub takes-not-rests : {c : Circuit} {until : ℕ} {m : Moment} → Takes c until m → Rests c until m → ⊥
@@ -77,9 +91,9 @@ steps-unique {c} {until} {size} {a = a} {b = b} sa ra sb rb = from (steps-throug
     from (goes t l rest) r = absurd (takes-not-rests t r)
 
 -- a run stands at a picosecond in one moment only
-pub trace-unique : {c : Circuit} {size : ℕ} {a b : Moment} → checkCircuit c ≡ answered c → Trace c size a → Trace c size b → (p : ℕ)
+pub trace-unique : {c : Circuit} {size : ℕ} {from a b : Moment} → Ground c size from → Trace c size from a → Trace c size from b → (p : ℕ)
     → a .run .time ≤ p → Rests c p a → b .run .time ≤ p → Rests c p b → a ≡ b
-trace-unique legal ta tb p la ra lb rb = steps-unique (trace-steps legal ta p la) ra (trace-steps legal tb p lb) rb
+trace-unique g ta tb p la ra lb rb = steps-unique (trace-steps g ta p la) ra (trace-steps g tb p lb) rb
 
 -- a legal working table
 abbrev pub someWorking : Columns
@@ -92,213 +106,118 @@ some-working =
     (lengths-test someWorking (columns-lengths leastWorking fresh (omega arith) (omega arith) (omega arith)))
     (le-leb leastWorking (length (someWorking .letter)) (omega (arith, columns-length leastWorking fresh (omega arith))))
 
+-- what an answered start says of its table: it is sound, and the answer is the start in it, which fits
+pub record Started (c : Circuit) (table : Columns) (used : ℕ) (m : Moment) : Type 0 where
+  pub lengths : Lengths table
+  pub sound : Sound (c .letters) (tableOf table used)
+  pub is : m ≡ startMoment c (tableOf table used)
+  pub fits : length (startMoment c (tableOf table used) .table) ≤ length (table .letter)
+
+pub start-answered : (c : Circuit) (table : Columns) (used : ℕ) (working : Columns) (m : Moment) → startCall (answered c) table used working ≡ answered m → Started c table used m
+unfolding startCall
+start-answered c table used working m e =
+    let one = check-passed (lengthsLegal table && workingLegal working) Buffer _ m e in
+    let two = check-passed (columnsSound (c .letters) table used) Unsound _ m (one .1) in
+    let three = check-passed (leb (length (startMoment c (tableOf table used) .table)) (length (table .letter))) Full (answered (startMoment c (tableOf table used))) m (two .1) in
+    record {
+      lengths = lengths-record table (and-left (lengthsLegal table) (workingLegal working) (one .0));
+      sound = columns-record (c .letters) table used (two .0) .table;
+      is = sym (same-answer (three .1));
+      fits = leb-true (length (startMoment c (tableOf table used) .table)) (length (table .letter)) (three .0);
+    }
+
+-- a run sets out from it
+pub started-ground : {c : Circuit} → checkCircuit c ≡ answered c → (table : Columns) (used : ℕ) (m : Moment) → Started c table used m → Ground c (length (table .letter)) (startMoment c (tableOf table used))
+started-ground legal table used m s = record {
+  legal = legal;
+  least = s .lengths .least;
+  most = s .lengths .most;
+  sound = start-sound legal (s .sound);
+  fits = s .fits;
+}
+
+-- a run in a fresh table sets out from its start
+pub fresh-ground : {c : Circuit} {size : ℕ} → checkCircuit c ≡ answered c → leastEntries ≤ size → size ≤ mostEntries → length (startMoment c fresh .table) ≤ size → Ground c size (startMoment c fresh)
+fresh-ground {c} legal least most fits = record { legal = legal; least = least; most = most; sound = start-sound legal (fresh-sound (c .letters)); fits = fits }
+
+-- the start in a fresh table
+pub start-fresh : (c : Circuit) {size : ℕ} → leastEntries ≤ size → size ≤ mostEntries → (working : Columns) → workingLegal working ≡ true
+    → startCall (answered c) (columnsOf size fresh) leastEntries working ≡ fitting size (startMoment c fresh)
+unfolding startCall
+start-fresh c {size} least most working w =
+    rw (
+      and-both (lengthsLegal (columnsOf size fresh)) (workingLegal working) (lengths-test (columnsOf size fresh) (columns-lengths size fresh least most least)) w,
+      columns-sound-test (c .letters) size fresh (sound-test (c .letters) fresh (fresh-sound (c .letters))) least,
+      table-columns size fresh least,
+      columns-length size fresh least,
+    )
+
 -- an answered step or run had a legal working table
-module _ (c : Circuit) (h : Held) where
-  step-working : (working : Columns) (after : Moment) → stepCall (checkCircuit c) (h .columns) (h .run) working ≡ answered after → workingLegal working ≡ true
+module _ (c : Circuit) (table : Columns) (r : _) where
+  pub step-working : (working : Columns) (after : Moment) → stepCall (answered c) table r working ≡ answered after → workingLegal working ≡ true
   unfolding stepCall
-  step-working working after e = and-right (lengthsLegal (h .columns)) (workingLegal working) (check-passed (lengthsLegal (h .columns) && workingLegal working) Buffer _ after e .0)
+  step-working working after e = and-right (lengthsLegal table) (workingLegal working) (check-passed (lengthsLegal table && workingLegal working) Buffer _ after e .0)
 
-  run-working : (until : ℕ) (working : Columns) (after : Moment) → runCall (checkCircuit c) until (h .columns) (h .run) working ≡ answered after → workingLegal working ≡ true
+  pub run-working : (until : ℕ) (working : Columns) (after : Moment) → runCall (answered c) until table r working ≡ answered after → workingLegal working ≡ true
   unfolding runCall
-  run-working until working after e = and-right (lengthsLegal (h .columns)) (workingLegal working) (check-passed (lengthsLegal (h .columns) && workingLegal working) Buffer _ after e .0)
+  run-working until working after e = and-right (lengthsLegal table) (workingLegal working) (check-passed (lengthsLegal table && workingLegal working) Buffer _ after e .0)
 
--- the cell of an answered call is legal
-cell-answered : {A : Type 0} {c : Circuit} (next : Circuit → Answer A) (a : A) → withCell (checkCircuit c) next ≡ answered a → checkCircuit c ≡ answered c
-cell-answered {A} {c} next a e = from (checkCircuit c) refl e
-  where
-    from : (cell : Answer Circuit) → checkCircuit c ≡ cell → withCell cell next ≡ answered a → checkCircuit c ≡ answered c
-    from (refused why) q k = refused-not-answered k
-    from (answered d) q k = q ∙ ap {B = Answer Circuit} answered (check-same q)
+-- calls on the columns and the run record of a moment
+module _ {c : Circuit} {size : ℕ} {m : Moment} (g : Ground c size m) where
+  -- they give it back
+  pub ground-given : momentGiven (columnsOf size (m .table)) (m .run) ≡ m
+  ground-given = held-given (g .sound) size (g .fits)
 
-module _ (c : Circuit) (size : ℕ) (working : Columns) (m : Moment) (e : startFresh c size working ≡ answered m) where
-  start-working : workingLegal working ≡ true
-  unfolding startCall
-  start-working = and-right (lengthsLegal (freshColumns size)) (workingLegal working) (check-passed (lengthsLegal (freshColumns size) && workingLegal working) Buffer _ m e .0)
+  -- the answer of a step, and of a run up to a picosecond
+  ground-step : (working : Columns) → workingLegal working ≡ true
+      → stepCall (answered c) (columnsOf size (m .table)) (m .run) working ≡ check (ltb (timeAfter c m) never) Finished (fitting size (stepMoment c m))
+  ground-step working w = held-step (g .sound) size (g .least) (g .most) (g .fits) working w
 
-  start-legal : checkCircuit c ≡ answered c
-  unfolding startCall
-  start-legal = cell-answered _ m (check-passed (lengthsLegal (freshColumns size) && workingLegal working) Buffer _ m e .1)
+  ground-run : (until : ℕ) (working : Columns) → workingLegal working ≡ true → runCall (answered c) until (columnsOf size (m .table)) (m .run) working ≡ ran c until size m
+  ground-run until working w = held-run (g .sound) size (g .least) (g .most) (g .fits) working w until
 
-module _ {c : Circuit} (legal : checkCircuit c ≡ answered c) {size : ℕ} (least : leastEntries ≤ size) (most : size ≤ mostEntries) where
-  -- the start in a fresh table
-  pub start-fresh : (working : Columns) → workingLegal working ≡ true → startFresh c size working ≡ fitting size (startMoment c fresh)
-  unfolding startCall
-  start-fresh working w =
-      rw (
-        and-both (lengthsLegal (freshColumns size)) (workingLegal working) (lengths-test (freshColumns size) (columns-lengths size fresh least most least)) w,
-        legal,
-        columns-sound-test (c .letters) size fresh (sound-test (c .letters) fresh (fresh-sound (c .letters))) least,
-        table-columns size fresh least,
-        columns-length size fresh least,
-      )
+  -- a step is answered exactly if there is one and it fits
+  pub step-answers : (working : Columns) → workingLegal working ≡ true → timeAfter c m < never → length (stepMoment c m .table) ≤ size
+      → stepCall (answered c) (columnsOf size (m .table)) (m .run) working ≡ answered (stepMoment c m)
+  step-answers working w next l = ground-step working w ∙ rw (lt-ltb (timeAfter c m) never next, le-leb (length (stepMoment c m .table)) size l)
 
-  module _ {m : Moment} (t : Trace c size m) where
-    -- with its run record
-    pub trace-given : momentGiven (holding size m .columns) (holding size m .run) ≡ m
-    trace-given = held-given (trace-sound legal t) size (trace-fits t)
+  -- and what is answered is the step's moment
+  pub step-answered : (working : Columns) (after : Moment) → stepCall (answered c) (columnsOf size (m .table)) (m .run) working ≡ answered after
+      → (timeAfter c m < never) × (length (stepMoment c m .table) ≤ size) × (after ≡ stepMoment c m)
+  step-answered working after e =
+      let w = step-working c (columnsOf size (m .table)) (m .run) working after e in
+      let one = check-passed (ltb (timeAfter c m) never) Finished (fitting size (stepMoment c m)) after (sym (ground-step working w) ∙ e) in
+      let two = check-passed (leb (length (stepMoment c m .table)) size) Full (answered (stepMoment c m)) after (one .1) in
+      (ltb-true (timeAfter c m) never (one .0), leb-true (length (stepMoment c m .table)) size (two .0), sym (same-answer (two .1)))
 
-    -- and are as long as the table was to be
-    pub trace-length : length (holding size m .columns .letter) ≡ size
-    trace-length = columns-length size (m .table) (trace-fits t)
-
-    -- the answer of a step
-    pub trace-step : (working : Columns) → workingLegal working ≡ true
-        → stepCall (checkCircuit c) (holding size m .columns) (holding size m .run) working ≡ check (ltb (timeAfter c m) never) Finished (fitting size (stepMoment c m))
-    trace-step working w =
-        ap (λ (cell : Answer Circuit). stepCall cell (holding size m .columns) (holding size m .run) working) legal
-        ∙ held-step (trace-sound legal t) size least most (trace-fits t) working w
-
-    -- the answer of a run up to a picosecond
-    pub trace-run : (until : ℕ) (working : Columns) → workingLegal working ≡ true
-        → runCall (checkCircuit c) until (holding size m .columns) (holding size m .run) working ≡ ran c until size m
-    trace-run until working w =
-        ap (λ (cell : Answer Circuit). runCall cell until (holding size m .columns) (holding size m .run) working) legal
-        ∙ held-run (trace-sound legal t) size least most (trace-fits t) working w until
-
-    -- a step is answered exactly if there is one and it fits
-    pub step-answers : (working : Columns) → workingLegal working ≡ true → timeAfter c m < never → length (stepMoment c m .table) ≤ size
-        → stepCall (checkCircuit c) (holding size m .columns) (holding size m .run) working ≡ answered (stepMoment c m)
-    step-answers working w next l = trace-step working w ∙ rw (lt-ltb (timeAfter c m) never next, le-leb (length (stepMoment c m .table)) size l)
-
-    -- and what is answered is the step's moment
-    pub step-answered : (working : Columns) (after : Moment) → workingLegal working ≡ true
-        → stepCall (checkCircuit c) (holding size m .columns) (holding size m .run) working ≡ answered after
-        → (timeAfter c m < never) × (length (stepMoment c m .table) ≤ size) × (after ≡ stepMoment c m)
-    step-answered working after w e =
-        let one = check-passed (ltb (timeAfter c m) never) Finished (fitting size (stepMoment c m)) after (sym (trace-step working w) ∙ e) in
-        let two = check-passed (leb (length (stepMoment c m .table)) size) Full (answered (stepMoment c m)) after (one .1) in
-        (ltb-true (timeAfter c m) never (one .0), leb-true (length (stepMoment c m .table)) size (two .0), sym (same-answer (two .1)))
-
-    -- a run is answered exactly if each of its steps fits
-    pub run-answers : (until : ℕ) (working : Columns) → workingLegal working ≡ true
-        → ((last : Moment) → Steps c until size m last → Takes c until last → length (stepMoment c last .table) ≤ size)
-        → Answered (runCall (checkCircuit c) until (holding size m .columns) (holding size m .run) working)
-    run-answers until working w fit = from (ran c until size m) refl
-      where
-        from : (a : Answer Moment) → ran c until size m ≡ a → Answered (runCall (checkCircuit c) until (holding size m .columns) (holding size m .run) working)
-        from (answered after) e = (after, trace-run until working w ∙ e)
-        from (refused why) e =
-            let r = run-refused c until size (c .horizon .0) m why e in
-            let l = fit (r .1) (r .2) (r .3) in
-            absurd (omega (arith, r .4))
-
-    -- it is enough that the steps of all such moments fit
-    pub run-answers-trace : (until : ℕ) (working : Columns) → workingLegal working ≡ true
-        → ((last : Moment) → Trace c size last → Takes c until last → length (stepMoment c last .table) ≤ size)
-        → Answered (runCall (checkCircuit c) until (holding size m .columns) (holding size m .run) working)
-    run-answers-trace until working w fit = run-answers until working w (λ last steps next. fit last (steps-trace steps t) next)
-
-    -- an answered run took its steps, and none is left
-    pub run-answered : (until : ℕ) (working : Columns) (after : Moment) → workingLegal working ≡ true
-        → runCall (checkCircuit c) until (holding size m .columns) (holding size m .run) working ≡ answered after
-        → Steps c until size m after × Rests c until after
-    run-answered until working after w e = run-exact legal until size (trace-sound legal t) after (sym (trace-run until working w) ∙ e)
-
-    -- a question about a node at a pattern is answered from the state that the moment holds
-    pub trace-ask : (n q : ℕ) → n < firstNodeNumber + length (c .nodes) → q < patterns (c .letters)
-        → askCall (checkCircuit c) (holding size m .columns) (holding size m .run) n q ≡ answered (wireOf (stateOf c (m .table) (m .run) q) n)
-    trace-ask n q hn hq =
-        ap (λ (cell : Answer Circuit). askCall cell (holding size m .columns) (holding size m .run) n q) legal
-        ∙ held-ask (trace-sound legal t) size least most (trace-fits t) n q
-        ∙ ap (λ (b : Bool). check b Question (answered (wireOf (stateOf c (m .table) (m .run) q) n)))
-        (and-both (ltb n (firstNodeNumber + length (c .nodes))) (ltb q (patterns (c .letters))) (lt-ltb n (firstNodeNumber + length (c .nodes)) hn) (lt-ltb q (patterns (c .letters)) hq))
-
-    -- a held moment stands at a picosecond that its time has not passed and up to which it has no step
-    pub stands-at : (p : ℕ) → Stands c (holding size m) p → (m .run .time ≤ p) × Rests c p m
-    stands-at p s =
-        let after : Moment = momentGiven (holding size m .columns) (holding size m .run) in
-        let x = run-answered p someWorking after some-working (s .1 someWorking some-working) in
-        (s .0, subst (Rests c p) trace-given (x .1))
-
-    -- and the other way round
-    pub at-stands : (p : ℕ) → m .run .time ≤ p → Rests c p m → Stands c (holding size m) p
-    at-stands p l r =
-        (l, λ working w. trace-run p working w ∙ run-rests c p size (c .horizon .0) m r ∙ ap {B = Answer Moment} answered (sym trace-given))
-
-    -- a refused call leaves what is held, an answered one holds its answer
-    leaves-trace : (a : Answer Moment) → ((after : Moment) → a ≡ answered after → Trace c size after) → (after : Moment) × Trace c size after × (leaves (holding size m) a ≡ holding size after)
-    leaves-trace (refused why) h = (m, t, refl)
-    leaves-trace (answered after) h = (after, h after refl, ap (λ (n : ℕ). holding n after) trace-length)
-
-    -- each call of a list leads from one held moment to another
-    pub call-trace : (call : Call) → (after : Moment) × Trace c size after × (afterCall c (holding size m) call ≡ holding size after)
-    unfolding afterCall
-    call-trace (step working) =
-        leaves-trace (stepCall (checkCircuit c) (holding size m .columns) (holding size m .run) working)
-        (λ after e.
-        let x = step-answered working after (step-working c (holding size m) working after e) e in
-        subst (Trace c size) (sym (x .2)) (stepped t (x .0) (x .1)))
-    call-trace (upTo until working) =
-        leaves-trace (runCall (checkCircuit c) until (holding size m .columns) (holding size m .run) working)
-        (λ after e. steps-trace (run-answered until working after (run-working c (holding size m) until working after e) e .0) t)
-
-  -- and so does the list
-  pub calls-trace : (calls : List Call) {m : Moment} → Trace c size m → (after : Moment) × Trace c size after × (afterCalls c (holding size m) calls ≡ holding size after)
-  unfolding afterCalls
-  calls-trace [] {m} t = (m, t, refl)
-  calls-trace (call ∷ calls) t =
-      let x = call-trace t call in
-      let y = calls-trace calls (x .1) in
-      (y .0, y .1, ap (λ (h : Held). afterCalls c h calls) (x .2) ∙ y .2)
-
--- an answered start: the cell is legal, and what it answers is its start in the fresh table, which fits
-pub record Start (c : Circuit) (size : ℕ) (m : Moment) : Type 0 where
-  pub legal : checkCircuit c ≡ answered c
-  pub is : m ≡ startMoment c fresh
-  pub fits : length (startMoment c fresh .table) ≤ size
-
-module _ {c : Circuit} {size : ℕ} (least : leastEntries ≤ size) (most : size ≤ mostEntries) where
-  -- what an answered start says
-  pub start-answered : (working : Columns) (m : Moment) → startFresh c size working ≡ answered m → Start c size m
-  start-answered working m e =
-      let legal : checkCircuit c ≡ answered c = start-legal c size working m e in
-      let x = check-passed (leb (length (startMoment c fresh .table)) size) Full (answered (startMoment c fresh)) m (sym (start-fresh legal least most working (start-working c size working m e)) ∙ e) in
-      record { legal = legal; is = sym (same-answer (x .1)); fits = leb-true (length (startMoment c fresh .table)) size (x .0) }
-
-  -- a start that fits is answered
-  pub start-answers : (working : Columns) → workingLegal working ≡ true → checkCircuit c ≡ answered c → length (startMoment c fresh .table) ≤ size
-      → startFresh c size working ≡ answered (startMoment c fresh)
-  start-answers working w legal l = start-fresh legal least most working w ∙ fitting-fits size (startMoment c fresh) l
-
-  -- the cell of a run that was reached is legal
-  pub reached-legal : (h : Held) → Reached c size h → checkCircuit c ≡ answered c
-  reached-legal h r = start-answered (r .0) (r .1) (r .3) .legal
-
-  -- what a run that was reached holds
-  pub reached-trace : (h : Held) → Reached c size h → (m : Moment) × Trace c size m × (h ≡ holding size m)
-  reached-trace h r =
-      let s : Start c size (r .1) = start-answered (r .0) (r .1) (r .3) in
-      let x = calls-trace (s .legal) least most (r .2) (subst (Trace c size) (sym (s .is)) (started (s .fits))) in
-      (x .0, x .1, sym (r .4) ∙ x .2)
-
-  -- and where it stands
-  pub reached-stands : (h : Held) → Reached c size h → (p : ℕ) → Stands c h p → (m : Moment) × Trace c size m × (h ≡ holding size m) × (m .run .time ≤ p) × Rests c p m
-  reached-stands h r p s =
-      let x = reached-trace h r in
-      let y = stands-at (reached-legal h r) least most (x .1) p (subst (λ (k : Held). Stands c k p) (x .2) s) in
-      (x .0, x .1, x .2, y .0, y .1)
-
-  -- where the start and every step up to a picosecond fit, running the cell is not refused up to it
-  pub not-refused : checkCircuit c ≡ answered c → length (startMoment c fresh .table) ≤ size → (p : ℕ)
-      → ((m : Moment) → Trace c size m → Takes c p m → length (stepMoment c m .table) ≤ size) → NotRefusedUpTo c size p
-  not-refused legal first p fit = (
-    λ working w. (startMoment c fresh, start-answers working w legal first),
-    λ h r working w.
-        let x = reached-trace h r in
-        subst (Calls working) (sym (x .2)) (held working w (x .1)),
-  )
+  -- a run is answered exactly if each of its steps fits
+  pub run-answers : (until : ℕ) (working : Columns) → workingLegal working ≡ true
+      → ((last : Moment) → Trace c size m last → Takes c until last → length (stepMoment c last .table) ≤ size)
+      → (after : Moment) × (runCall (answered c) until (columnsOf size (m .table)) (m .run) working ≡ answered after)
+  run-answers until working w fit = from (ran c until size m) refl
     where
-      Calls : Columns → Held → Type 0
-      Calls working h =
-          ((q : ℕ) → q ≤ p → Answered (runCall (checkCircuit c) q (h .columns) (h .run) working))
-          × (timeAfter c (momentGiven (h .columns) (h .run)) < never → timeAfter c (momentGiven (h .columns) (h .run)) ≤ p
-          → Answered (stepCall (checkCircuit c) (h .columns) (h .run) working))
+      from : (a : Answer Moment) → ran c until size m ≡ a → (after : Moment) × (runCall (answered c) until (columnsOf size (m .table)) (m .run) working ≡ answered after)
+      from (answered after) e = (after, ground-run until working w ∙ e)
+      from (refused why) e =
+          let r = run-refused c until size (c .horizon .0) m why e in
+          let l = fit (r .1) (steps-trace (r .2) begun) (r .3) in
+          absurd (omega (arith, r .4))
 
-      held : (working : Columns) → workingLegal working ≡ true → {m : Moment} → Trace c size m → Calls working (holding size m)
-      held working w {m} t =
-          let same : timeAfter c (momentGiven (holding size m .columns) (holding size m .run)) ≡ timeAfter c m = ap (timeAfter c) (trace-given legal least most t) in (
-            λ q l. run-answers-trace legal least most t q working w (λ last k next. fit last k (record { more = next .more; reach = omega (arith, next .reach) })),
-            λ next reach.
-                let k : Takes c p m = record { more = omega arith; reach = omega arith } in
-                (stepMoment c m, step-answers legal least most t working w (k .more) (fit m t k)),
-          )
+  -- an answered run took its steps, and none is left
+  pub run-answered : (until : ℕ) (working : Columns) (after : Moment) → runCall (answered c) until (columnsOf size (m .table)) (m .run) working ≡ answered after
+      → Steps c until size m after × Rests c until after
+  run-answered until working after e =
+      let w = run-working c (columnsOf size (m .table)) (m .run) until working after e in
+      run-exact (g .legal) until size (g .sound) after (sym (ground-run until working w) ∙ e)
+
+  -- one without a step is answered with the moment itself
+  pub run-rested : (until : ℕ) (working : Columns) → workingLegal working ≡ true → Rests c until m → runCall (answered c) until (columnsOf size (m .table)) (m .run) working ≡ answered m
+  run-rested until working w r = ground-run until working w ∙ run-rests c until size (c .horizon .0) m r
+
+  -- a question about a node at a pattern is answered from the state that the moment holds
+  pub ground-ask : (n q : ℕ) → n < firstNodeNumber + length (c .nodes) → q < patterns (c .letters)
+      → askCall (answered c) (columnsOf size (m .table)) (m .run) n q ≡ answered (wireOf (stateOf c (m .table) (m .run) q) n)
+  ground-ask n q hn hq =
+      held-ask (g .sound) size (g .least) (g .most) (g .fits) n q
+      ∙ ap (λ (b : Bool). check b Question (answered (wireOf (stateOf c (m .table) (m .run) q) n)))
+      (and-both (ltb n (firstNodeNumber + length (c .nodes))) (ltb q (patterns (c .letters))) (lt-ltb n (firstNodeNumber + length (c .nodes)) hn) (lt-ltb q (patterns (c .letters)) hq))

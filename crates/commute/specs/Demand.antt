@@ -3,18 +3,18 @@
 use Prim.Native.Nat.{ℕ, zero, suc, _+_, _≤_, _<_}
 use mathlib.Core.Path.{_≡_}
 use mathlib.Core.Bool.{true}
-use mathlib.Core.List.{List}
 use lib.ListN.{length}
-use Rattle.refusal.specs.Answer.{Answer, answered}
+use Rattle.refusal.specs.Answer.{answered}
 use Rattle.format.specs.Circuit.{Circuit, firstNodeNumber}
-use Rattle.format.specs.Legal.{checkCircuit}
 use Rattle.format.specs.Fixing.{Setting, free, low, high, Fixing, fixed}
 use Rattle.diagram.specs.Pattern.{patterns, withLetter}
 use Rattle.diagram.specs.Table.{never}
-use Rattle.diagram.specs.Call.{Columns, leastEntries, mostEntries}
-use Rattle.rules.specs.Run.{Moment, timeAfter}
-use Rattle.rules.specs.Call.{workingLegal, momentGiven, stepCall, runCall, Wire, askCall}
-use Rattle.commute.specs.Lists.{Call, Held, startFresh, holding, afterCalls}
+use Rattle.diagram.specs.Store as table
+use Rattle.diagram.specs.Call.{Columns, lengthsLegal}
+use Rattle.rules.specs.Run.{timeAfter}
+use Rattle.rules.specs.Call.{workingLegal, momentGiven}
+use Rattle.commute.specs.Interface.{Held, Interface}
+use Rattle.commute.specs.Lists.{Call, step, inPlace, upTo, workingOf, Made, Reached}
 
 -- a pattern with each fixed letter below K set as fixed
 abbrev pub setLetter : Setting → ℕ → ℕ → ℕ
@@ -26,45 +26,50 @@ unfoldable pub fixedPattern : Fixing → ℕ → ℕ → ℕ
 fixedPattern φ zero p = p
 fixedPattern φ (suc k) p = setLetter (φ k) k (fixedPattern φ k p)
 
--- a call is answered
-abbrev pub Answered : {A : Type 0} → Answer A → Type 0
-Answered {A} answer = (a : A) × (answer ≡ answered a)
+-- the time of the last step kept, and T of the next step, never where there is none
+abbrev pub timeHeld : {Source R : Type 0} → Interface Source R → Circuit → Held R → ℕ
+timeHeld K c h = K .stated c (h .run) .time
 
--- a run stands at picosecond p: it has kept no step later than p, and a next run up to p would be answered without a step
-abbrev pub Stands : Circuit → Held → ℕ → Type 0
-Stands c h p =
-    (h .run .time ≤ p)
-    × ((working : Columns) → workingLegal working ≡ true → runCall (checkCircuit c) p (h .columns) (h .run) working ≡ answered (momentGiven (h .columns) (h .run)))
+abbrev pub stepTime : {Source R : Type 0} → Interface Source R → Circuit → Held R → ℕ
+stepTime K c h = timeAfter c (momentGiven (h .table) (K .stated c (h .run)))
 
--- what a run that was started in a fresh table holds after a list of calls
-abbrev pub Reached : Circuit → ℕ → Held → Type 0
-Reached c size h =
-    (working : Columns) × (m : Moment) × (calls : List Call)
-    × (startFresh c size working ≡ answered m) × (afterCalls c (holding size m) calls ≡ h)
+-- a run stands at picosecond p: it has kept no step later than p, and a next run up to p would, with some working table, be answered
+-- without a step, which is to leave all as it was
+pub record Stands {Source R : Type 0} (K : Interface Source R) (s : Source) (c : Circuit) (h : Held R) (p : ℕ) : Type 0 where
+  pub time : timeHeld K c h ≤ p
+  pub working : Columns
+  pub working′ : Columns
+  pub rests : K .UpTo s p h h working working′ 0
 
--- running a cell is not refused up to picosecond p, lengths being in range: not its start, and after any of its lists no run up to at
--- most p and no step whose time is at most p
-abbrev pub NotRefusedUpTo : Circuit → ℕ → ℕ → Type 0
-NotRefusedUpTo c size p =
-    ((working : Columns) → workingLegal working ≡ true → Answered (startFresh c size working))
-    × ((h : Held) → Reached c size h → (working : Columns) → workingLegal working ≡ true
-    → ((q : ℕ) → q ≤ p → Answered (runCall (checkCircuit c) q (h .columns) (h .run) working))
-    × (timeAfter c (momentGiven (h .columns) (h .run)) < never → timeAfter c (momentGiven (h .columns) (h .run)) ≤ p
-    → Answered (stepCall (checkCircuit c) (h .columns) (h .run) working)))
+-- a run up to at most p, or a step whose time is at most p
+abbrev pub Within : (p time : ℕ) → Call → Type 0
+Within p time (step working) = (time < never) × (time ≤ p)
+Within p time (inPlace working) = (time < never) × (time ≤ p)
+Within p time (upTo q working) = q ≤ p
 
--- both questions are answered, and alike
-abbrev pub SameWire : Answer Wire → Answer Wire → Type 0
-SameWire a b = (wire : Wire) × (a ≡ answered wire) × (b ≡ answered wire)
+-- running a cell is not refused up to picosecond p, lengths being in range: not its fresh table, not its start, and after any of its
+-- lists no run up to at most p and no step whose time is at most p
+pub record NotRefusedUpTo {Source R : Type 0} (K : Interface Source R) (s : Source) (c : Circuit) (size p : ℕ) : Type 0 where
+  pub fresh-table : (lent made : Columns) → lengthsLegal lent ≡ true → (number : ℕ) → K .Fresh lent made number → number ≡ 0
+  pub start : (lent : Columns) → length (lent .letter) ≡ size → (made h : Held R) → K .Fresh lent (made .table) 0 → K .Sized (made .run)
+      → (working working′ : Columns) → workingLegal working ≡ true
+      → (number : ℕ) → K .Start s (length table.fresh) made h working working′ number → number ≡ 0
+  pub calls : (h : Held R) → Reached K s size h → (call : Call) → workingLegal (workingOf call) ≡ true → Within p (stepTime K c h) call
+      → (h′ : Held R) (number : ℕ) → Made K s call h h′ number → number ≡ 0
 
--- The claim: any cell value, any fixing, one table length, any two lists, any picosecond.
-unfoldable pub OrderMakesNoDifference : Type 0
-OrderMakesNoDifference =
-    (c : Circuit) (φ : Fixing) (size : ℕ) → leastEntries ≤ size → size ≤ mostEntries
-    → (first : Held) → Reached c size first
-    → (p : ℕ) → Stands c first p
-    → NotRefusedUpTo (fixed φ c) size p
-    × ((second : Held) → Reached (fixed φ c) size second → Stands (fixed φ c) second p
+-- two questions, each by its number, value and next change, are answered, and alike
+abbrev pub SameAnswer : (ℕ → ℕ → ℕ → Type 0) → (ℕ → ℕ → ℕ → Type 0) → Type 0
+SameAnswer Asked Asked′ =
+    (number value change number′ value′ change′ : ℕ) → Asked number value change → Asked′ number′ value′ change′
+    → (number ≡ 0) × (number′ ≡ 0) × (value ≡ value′) × (change ≡ change′)
+
+-- The claim: any cell that is read, any fixing of it, one table length, any two lists, any picosecond; every node number and pattern.
+unfoldable pub OrderMakesNoDifference : {Source R : Type 0} → Interface Source R → Type 0
+OrderMakesNoDifference {Source} {R} K =
+    (s fixed-one : Source) (c : Circuit) (φ : Fixing) → K .cell s ≡ answered c → K .cell fixed-one ≡ answered (fixed φ c)
+    → (size : ℕ) (first : Held R) → Reached K s size first
+    → (p : ℕ) → Stands K s c first p
+    → NotRefusedUpTo K fixed-one (fixed φ c) size p
+    × ((second : Held R) → Reached K fixed-one size second → Stands K fixed-one (fixed φ c) second p
     → (n q : ℕ) → n < firstNodeNumber + length (c .nodes) → q < patterns (c .letters)
-    → SameWire
-    (askCall (checkCircuit (fixed φ c)) (second .columns) (second .run) n q)
-    (askCall (checkCircuit c) (first .columns) (first .run) n (fixedPattern φ (c .letters) q)))
+    → SameAnswer (K .Ask fixed-one second n q) (K .Ask s first n (fixedPattern φ (c .letters) q)))

@@ -1,2 +1,4 @@
+pub mod Interface
 pub mod Lists
 pub mod Demand
+pub mod Alone

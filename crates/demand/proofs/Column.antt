@@ -1,8 +1,10 @@
--- A run laid out in the record's column comes back from it.
-use mathlib.Core.Path.{_≡_, _∙_, ap}
-use Prim.Native.Nat.{_≤_}
+-- A run laid out in the record's column comes back from it, and a column of the right length from the record in it.
+use mathlib.Core.Path.{_≡_, refl, _∙_, ap}
+use mathlib.Core.List.{List, [], _∷_, _++_}
+use Prim.Native.Nat.{ℕ, suc, _≤_}
 use native.Mathlib.Omega.{arith}
-use lib.ListN.{length}
+use lib.ListN.{length, take, drop, length-drop, take-append-drop}
+use lib.Seq.{take-all}
 use Rattle.refusal.specs.Answer.{answered}
 use Rattle.format.specs.Circuit.{Circuit}
 use Rattle.format.specs.Legal.{mostNodes}
@@ -11,7 +13,7 @@ use Rattle.record.specs.declared.Run.{Run}
 use Rattle.record.specs.Record.{recordOf}
 use Rattle.record.proofs.Record.{run-of-record, record-long}
 use Rattle.advance.specs.Task.{runIn}
-use Rattle.editor.specs.Runs.{recordIn, recordColumn}
+use Rattle.editor.specs.Runs.{recordLength, recordIn, recordColumn}
 use Rattle.editor.proofs.Column.{read-back}
 
 module _ (c : Circuit) (few : length (c .nodes) ≤ mostNodes) (r : defined.Run) (vs : length (r .values) ≡ length (c .nodes)) (cs : length (r .changes) ≡ length (c .nodes)) where
@@ -20,3 +22,11 @@ module _ (c : Circuit) (few : length (c .nodes) ≤ mostNodes) (r : defined.Run)
   column-run =
       let x = record-long r (omega arith) (omega arith) in
       ap (runIn (answered c)) (read-back (recordOf r) (x .0) (x .1)) ∙ run-of-record c r vs cs
+
+-- the column of the record in a column
+pub column-back : (column : List ℕ) → length column ≡ recordLength → recordColumn (recordIn column) ≡ column
+column-back [] h = absurd (omega arith)
+column-back (time ∷ []) h = absurd (omega arith)
+column-back (time ∷ used ∷ l) h =
+    ap (λ (xs : List ℕ). time ∷ used ∷ take 24 l ++ xs) (take-all 24 (drop 24 l) (omega (arith, length-drop 24 l)))
+    ∙ ap (λ (xs : List ℕ). time ∷ used ∷ xs) (take-append-drop 24 l)

@@ -1,6 +1,4 @@
 pub mod Column
-pub mod Laid
-pub mod Start
-pub mod Stands
-pub mod Order
-pub mod Alone
+pub mod FromC
+pub mod ByValue
+pub mod Demand

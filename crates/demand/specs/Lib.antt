@@ -1,2 +1,3 @@
-pub mod Calls
+pub mod FromC
+pub mod ByValue
 pub mod Demand

@@ -1,3 +1,3 @@
-// Demand 3 over the editor's calls: the order of fixing letters in a cell file and running it makes no difference; no functions.
-// specs/ has the statement over the definitions that the calls' contracts cite: Calls (what is held, a list of calls) and Demand (the claim).
-// proofs/ has the proof, from the one of crate commute, and the case of every letter fixed by the rules for one pattern.
+// Demand 3 and demand 2 over the calls that there are, from C and by value; no functions.
+// specs/ has the two interfaces, each call by the proposition that its contract states (FromC, ByValue), and the demands (Demand).
+// proofs/ has the proof, from the one of crate commute for every interface whose contracts give the answers of the definitions.
