@@ -538,7 +538,8 @@ struct sts_moment {
     uint32_t changes[STS_MOST_NODES];
 };
 
-/* Writes the numbers of a struct to a column, all of them and nothing else. */
+/* Writes the numbers of a struct to a column, all of them and nothing else. The two
+   do not overlap. */
 static inline void sts_to_column(const struct sts_moment *moment,
                                  uint32_t column[STS_RECORD_LENGTH])
 {
@@ -552,7 +553,7 @@ static inline void sts_to_column(const struct sts_moment *moment,
     }
 }
 
-/* Writes the numbers of a column to a struct, all of them and nothing else. */
+/* Writes the numbers of a column to a struct, likewise. */
 static inline void sts_from_column(struct sts_moment *moment,
                                    const uint32_t column[STS_RECORD_LENGTH])
 {
