@@ -33,16 +33,18 @@
  * of their own. Every thread that calls has the stack told above.
  *
  * Cost. Nothing is remembered from one call to the next, so each call first does
- * what makes it safe. A call on a table clears its index and checks all of the
- * table: about 0.01 ms where few entries are used and 1 ms where 65,536 are; the
- * operation itself takes at most some 0.2 ms. A call on a run also reads the cell,
- * checks the record and clears the working columns: with the longest columns some
- * 0.3 ms before its first step, and the check of what the table holds. A step then
- * takes some hundredths of a ms where its functions have few entries, and some ms
- * where they have thousands; a dense cell of 12 letters fills the longest table
- * within two seconds. Shorter columns are cleared and checked sooner. Where the
- * moments in between are not needed, one sts_run is quicker than as many steps,
- * since it reads and checks once. docs/BENCHMARKS.md has the figures.
+ * what makes it safe, and that grows with the columns' length and the used count. A
+ * call on a table clears its index and checks all of the table: about 0.01 ms for a
+ * table of a few entries, 0.1 ms for the longest with few entries used, 1 ms for the
+ * longest when it is full. The operation itself takes at most some 0.2 ms. A call on
+ * a run also reads the cell, checks the record and clears the working columns: with
+ * the longest columns 0.2 to 0.3 ms before its first step, and more as the table
+ * fills. A step then takes some hundredths of a ms where its functions have few
+ * entries and some ms where they have thousands; a dense cell of 12 letters fills
+ * the longest table within two seconds. So shorter columns are quicker as long as
+ * they suffice, and where the moments in between are not needed one sts_run is
+ * quicker than as many steps, since it reads and checks once: for a carry chain of
+ * 129 steps about ten times. docs/BENCHMARKS.md has figures.
  */
 #ifndef STS_H
 #define STS_H
