@@ -31,9 +31,9 @@
 /* The number of the first node record: 0 is ground, 1 is supply. */
 #define FIRST_NODE 2
 
-/* Longer than any cell. A file that is still longer is refused for its length, and
-   its first bytes are so for the same reason. */
-#define FILE_ROOM 4096
+/* A byte more than any cell has: of a longer file these bytes are refused with the same
+   number. */
+#define FILE_ROOM (STS_MOST_BYTES + 1)
 
 /* Three columns of one length. */
 struct columns {
@@ -43,11 +43,6 @@ struct columns {
     size_t length;
 };
 
-/* The record of a run at one moment. */
-struct moment {
-    uint32_t record[STS_RECORD_LENGTH];
-};
-
 /* A cell and its run: what the editor keeps of it. */
 struct work {
     uint8_t file[FILE_ROOM];
@@ -55,8 +50,8 @@ struct work {
     uint32_t header[STS_HEADER_LENGTH];
     struct columns table;
     struct columns working;
-    /* The start and all steps. */
-    struct moment *moments;
+    /* The run's record after the start and after each step. */
+    struct sts_moment *moments;
     size_t moments_count;
     size_t moments_room;
 };
@@ -121,14 +116,14 @@ static int read_file(struct work *work, const char *name)
     return failed;
 }
 
-/* Makes room for one more moment; the record in it is that of the last one. */
-static struct moment *new_moment(struct work *work)
+/* Makes room for one more moment. */
+static struct sts_moment *new_moment(struct work *work)
 {
     size_t count = work->moments_count;
 
     if (count == work->moments_room) {
         size_t room = count == 0 ? 64 : 2 * count;
-        struct moment *moments = NULL;
+        struct sts_moment *moments = NULL;
 
         if (room <= SIZE_MAX / sizeof *moments)
             moments = realloc(work->moments, room * sizeof *moments);
@@ -137,10 +132,6 @@ static struct moment *new_moment(struct work *work)
         work->moments = moments;
         work->moments_room = room;
     }
-    if (count == 0)
-        memset(&work->moments[count], 0, sizeof work->moments[count]);
-    else
-        work->moments[count] = work->moments[count - 1];
     return &work->moments[count];
 }
 
@@ -149,7 +140,8 @@ static uint32_t start(struct work *work)
 {
     struct columns *table = &work->table;
     struct columns *working = &work->working;
-    struct moment *moment = new_moment(work);
+    struct sts_moment *moment = new_moment(work);
+    uint32_t record[STS_RECORD_LENGTH];
     uint32_t answer;
 
     answer = sts_fresh(table->letter, table->length,
@@ -162,31 +154,35 @@ static uint32_t start(struct work *work)
                        table->low, table->length,
                        table->high, table->length,
                        STS_FRESH_USED,
-                       moment->record, STS_RECORD_LENGTH,
+                       record, STS_RECORD_LENGTH,
                        working->letter, working->length,
                        working->low, working->length,
                        working->high, working->length);
-    if (answer == STS_OK)
-        work->moments_count++;
-    return answer;
+    if (answer != STS_OK)
+        return answer;
+    sts_from_column(moment, record);
+    work->moments_count++;
+    return STS_OK;
 }
 
-/* Takes one step. Gives the call's answer. */
+/* Takes one step: a copy of the last moment is advanced in place. Gives the call's
+   answer. */
 static uint32_t step(struct work *work)
 {
     struct columns *table = &work->table;
     struct columns *working = &work->working;
-    struct moment *moment = new_moment(work);
+    struct sts_moment *moment = new_moment(work);
     uint32_t answer;
 
-    answer = sts_step(work->file, work->file_length,
-                      table->letter, table->length,
-                      table->low, table->length,
-                      table->high, table->length,
-                      moment->record, STS_RECORD_LENGTH,
-                      working->letter, working->length,
-                      working->low, working->length,
-                      working->high, working->length);
+    *moment = work->moments[work->moments_count - 1];
+    answer = sts_advance(work->file, work->file_length,
+                         table->letter, table->length,
+                         table->low, table->length,
+                         table->high, table->length,
+                         moment,
+                         working->letter, working->length,
+                         working->low, working->length,
+                         working->high, working->length);
     if (answer == STS_OK)
         work->moments_count++;
     return answer;
@@ -197,11 +193,10 @@ static uint32_t step(struct work *work)
 static void renew_moments(struct work *work)
 {
     size_t last = work->moments_count - 1;
-    uint32_t used = work->moments[last].record[STS_RUN_USED];
     size_t i;
 
     for (i = 0; i < last; i++)
-        work->moments[i].record[STS_RUN_USED] = used;
+        work->moments[i].used = work->moments[last].used;
 }
 
 /* Prints the head of a table: the first columns' names, then the nodes' numbers. */
@@ -220,31 +215,31 @@ static uint32_t print_counts(const struct work *work)
 {
     const struct columns *table = &work->table;
     uint32_t letters = work->header[STS_LETTERS];
-    uint32_t counts[STS_RUN_CHANGES - STS_RUN_VALUES] = {0};
+    uint32_t counts[STS_MOST_NODES] = {0};
     size_t i;
 
     printf("patterns that are high, of %" PRIu32 "\n", UINT32_C(1) << letters);
     print_head(work, "     ps");
     for (i = 0; i < work->moments_count; i++) {
-        const uint32_t *record = work->moments[i].record;
+        const struct sts_moment *moment = &work->moments[i];
         uint32_t node;
 
         for (node = 0; node < work->header[STS_NODES]; node++) {
-            uint32_t entry = record[STS_RUN_VALUES + node];
+            uint32_t entry = moment->values[node];
             uint32_t answer;
 
             /* Two functions are equal exactly if their entries are. */
-            if (i > 0 && entry == work->moments[i - 1].record[STS_RUN_VALUES + node])
+            if (i > 0 && entry == work->moments[i - 1].values[node])
                 continue;
             answer = sts_count(letters,
                                table->letter, table->length,
                                table->low, table->length,
                                table->high, table->length,
-                               record[STS_RUN_USED], entry, &counts[node]);
+                               moment->used, entry, &counts[node]);
             if (answer != STS_OK)
                 return answer;
         }
-        printf("%7" PRIu32, record[STS_RUN_TIME]);
+        printf("%7" PRIu32, moment->time);
         for (node = 0; node < work->header[STS_NODES]; node++)
             printf(" %6" PRIu32, counts[node]);
         printf("\n");
@@ -253,12 +248,14 @@ static uint32_t print_counts(const struct work *work)
 }
 
 /* Asks for the values of all nodes at a pattern, and for the earliest next change. */
-static uint32_t ask(const struct work *work, const uint32_t *record, uint32_t pattern,
-                    uint32_t *values, uint32_t *change)
+static uint32_t ask(const struct work *work, const struct sts_moment *moment,
+                    uint32_t pattern, uint32_t *values, uint32_t *change)
 {
     const struct columns *table = &work->table;
+    uint32_t record[STS_RECORD_LENGTH];
     uint32_t node;
 
+    sts_to_column(moment, record);
     *change = STS_NEVER;
     for (node = 0; node < work->header[STS_NODES]; node++) {
         uint32_t told[STS_ANSWER_LENGTH];
@@ -283,18 +280,18 @@ static uint32_t ask(const struct work *work, const uint32_t *record, uint32_t pa
 /* Prints the wave of one pattern: the moments at which something changes there. */
 static uint32_t print_wave(const struct work *work, uint32_t pattern)
 {
-    uint32_t values[STS_RUN_CHANGES - STS_RUN_VALUES] = {0};
-    uint32_t before[STS_RUN_CHANGES - STS_RUN_VALUES];
+    uint32_t values[STS_MOST_NODES] = {0};
+    uint32_t before[STS_MOST_NODES];
     size_t i;
 
     for (i = 0; i < work->moments_count; i++) {
-        const uint32_t *record = work->moments[i].record;
+        const struct sts_moment *moment = &work->moments[i];
         uint32_t change;
         uint32_t node;
         uint32_t answer;
 
         memcpy(before, values, sizeof before);
-        answer = ask(work, record, pattern, values, &change);
+        answer = ask(work, moment, pattern, values, &change);
         if (answer != STS_OK)
             return answer;
         if (i == 0) {
@@ -303,7 +300,7 @@ static uint32_t print_wave(const struct work *work, uint32_t pattern)
         } else if (memcmp(before, values, sizeof before) == 0) {
             continue;
         }
-        printf("%7" PRIu32, record[STS_RUN_TIME]);
+        printf("%7" PRIu32, moment->time);
         if (change == STS_NEVER)
             printf("   never");
         else

@@ -1,7 +1,10 @@
 /*
  * The calls of the symbolic switch-level timing tool.
  *
- * Link with target/staticlib/libeditor.a, which `rt staticlib editor` writes.
+ * Link with target/staticlib/libeditor.a, which `rt staticlib editor` writes. The
+ * header is C99 and C++11. docs/CELL-FILE.md tells how the bytes of a cell file are
+ * laid out, docs/REFUSALS.md what to do about a refusal, and examples/editor.c is a
+ * program that makes the calls.
  *
  * Lent memory. Every array is lent as two parameters: a pointer to its first
  * element, then its length in elements (not in bytes). The pointer is not null,
@@ -20,6 +23,28 @@
  * told with each call. A refused call leaves all lent arrays as they were, unless
  * the call says otherwise. Any content of any array is answered or refused:
  * the caller has nothing to check first.
+ *
+ * Threads. The library keeps no state: a call reads and writes the memory lent to
+ * it and its own stack, and nothing stays behind. So calls on different memory may
+ * run at once, and so may calls that only read what they share: the file in all
+ * calls, in questions the table and the record too. While a call runs, nobody else
+ * writes to what it was lent, or reads what it may write to: two runs in one table
+ * are advanced one after the other, and calls that run at once have working columns
+ * of their own. Every thread that calls has the stack told above.
+ *
+ * Cost. Nothing is remembered from one call to the next, so each call first does
+ * what makes it safe, and that grows with the columns' length and the used count. A
+ * call on a table clears its index and checks all of the table: about 0.01 ms for a
+ * table of a few entries, 0.1 ms for the longest with few entries used, 1 ms for the
+ * longest when it is full. The operation itself takes at most some 0.2 ms. A call on
+ * a run also reads the cell, checks the record and clears the working columns: with
+ * the longest columns 0.2 to 0.3 ms before its first step, and more as the table
+ * fills. A step then takes some hundredths of a ms where its functions have few
+ * entries and some ms where they have thousands; a dense cell of 12 letters fills
+ * the longest table within two seconds. So shorter columns are quicker as long as
+ * they suffice, and where the moments in between are not needed one sts_run is
+ * quicker than as many steps, since it reads and checks once: for a carry chain of
+ * 129 steps about ten times. docs/BENCHMARKS.md has figures.
  */
 #ifndef STS_H
 #define STS_H
@@ -58,25 +83,45 @@ enum sts_answer {
     STS_FINISHED = 10
 };
 
+/*
+ * The limits of a cell: the most node records, transistors, schedule entries and
+ * letters, and the latest horizon in ps. A call on a function table may have that
+ * many letters too.
+ */
+#define STS_MOST_NODES 24
+#define STS_MOST_TRANSISTORS 64
+#define STS_MOST_ENTRIES 64
+#define STS_MOST_LETTERS 12
+#define STS_MOST_HORIZON 1000000
+
+/* The bytes of a cell file's header and of each of its records. */
+#define STS_RECORD_BYTES 16
+
+/* The most bytes of a cell file, 2448. A longer one is refused for its header or its
+   length, and its first STS_MOST_BYTES + 1 bytes are so with the same number. */
+#define STS_MOST_BYTES \
+    (STS_RECORD_BYTES * (1 + STS_MOST_NODES + STS_MOST_TRANSISTORS + STS_MOST_ENTRIES))
+
 /* How many numbers the header of a cell has. */
 #define STS_HEADER_LENGTH 5
 
 /* Where each of them stands. */
 enum sts_header {
-    /* Node records, 1 to 24. */
+    /* Node records, 1 to STS_MOST_NODES. */
     STS_NODES = 0,
-    /* Transistors, 1 to 64. */
+    /* Transistors, 1 to STS_MOST_TRANSISTORS. */
     STS_TRANSISTORS = 1,
-    /* Schedule entries, 0 to 64. */
+    /* Schedule entries, 0 to STS_MOST_ENTRIES. */
     STS_ENTRIES = 2,
-    /* Letters, 0 to 12. */
+    /* Letters, 0 to STS_MOST_LETTERS. */
     STS_LETTERS = 3,
-    /* The horizon in ps, 1 to 1,000,000. */
+    /* The horizon in ps, 1 to STS_MOST_HORIZON. */
     STS_HORIZON = 4
 };
 
 /*
  * Reads a cell file, checks all of it and gives the numbers of its header.
+ * docs/CELL-FILE.md has the layout of the file, with one that is told byte by byte.
  *
  *   file, file_length      the file's bytes; any length
  *   header, header_length  receives the five numbers that enum sts_header names;
@@ -159,9 +204,6 @@ uint32_t sts_read(const uint8_t *file, size_t file_length,
 
 /* The number that stands for never. */
 #define STS_NEVER UINT32_MAX
-
-/* The most letters that a call may have. */
-#define STS_MOST_LETTERS 12
 
 /* The lengths that a table may have. */
 #define STS_LEAST_TABLE 3
@@ -409,7 +451,7 @@ enum sts_record {
     /* From here on, to 25: the values' entries of nodes 2, 3 and so on. */
     STS_RUN_VALUES = 2,
     /* From here on, to 49: the next changes' entries of nodes 2, 3 and so on. */
-    STS_RUN_CHANGES = 26
+    STS_RUN_CHANGES = STS_RUN_VALUES + STS_MOST_NODES
 };
 
 /* How many numbers the answer of a question about a run has. */
@@ -478,23 +520,62 @@ uint32_t sts_step(const uint8_t *file, size_t file_length,
                   uint32_t *work_high, size_t work_high_length);
 
 /*
- * The record of a run as a struct, for a caller that holds it so: the numbers of
- * the record in their order. values[n - 2] and changes[n - 2] are the entries of
- * node n.
+ * The record of a run as a struct, for a caller that holds it so: the same
+ * STS_RECORD_LENGTH numbers in the same order. values[n - 2] and changes[n - 2] are
+ * the entries of node n.
+ *
+ * sts_advance takes the struct; sts_start, sts_step, sts_run and sts_ask take a
+ * column of numbers. sts_from_column and sts_to_column go from one to the other and
+ * back: a run that was started in a column goes on in a struct, and a struct's
+ * column is asked about or run on.
  */
-struct sts_run {
+struct sts_moment {
+    /* column[STS_RUN_TIME] */
     uint32_t time;
+    /* column[STS_RUN_USED] */
     uint32_t used;
-    uint32_t values[24];
-    uint32_t changes[24];
+    /* from column[STS_RUN_VALUES] on */
+    uint32_t values[STS_MOST_NODES];
+    /* from column[STS_RUN_CHANGES] on */
+    uint32_t changes[STS_MOST_NODES];
 };
 
+/* Writes the numbers of a struct to a column, all of them and nothing else. The two
+   do not overlap. */
+static inline void sts_to_column(const struct sts_moment *moment,
+                                 uint32_t column[STS_RECORD_LENGTH])
+{
+    size_t i;
+
+    column[STS_RUN_TIME] = moment->time;
+    column[STS_RUN_USED] = moment->used;
+    for (i = 0; i < STS_MOST_NODES; i++) {
+        column[STS_RUN_VALUES + i] = moment->values[i];
+        column[STS_RUN_CHANGES + i] = moment->changes[i];
+    }
+}
+
+/* Writes the numbers of a column to a struct, likewise. */
+static inline void sts_from_column(struct sts_moment *moment,
+                                   const uint32_t column[STS_RECORD_LENGTH])
+{
+    size_t i;
+
+    moment->time = column[STS_RUN_TIME];
+    moment->used = column[STS_RUN_USED];
+    for (i = 0; i < STS_MOST_NODES; i++) {
+        moment->values[i] = column[STS_RUN_VALUES + i];
+        moment->changes[i] = column[STS_RUN_CHANGES + i];
+    }
+}
+
 /*
- * Takes one step, as sts_step does, on a record in a struct.
+ * Takes one step on a record in a struct, in place: what sts_step does on the same
+ * numbers in a column, with the same answer, table and working columns.
  *
  *   file, file_length                 the file's bytes; any length
  *   letter, low, high                 the table's columns, which may be added to
- *   run                               the record of the run, before and after: not
+ *   moment                            the record of the run, before and after: not
  *                                     null, and apart from the arrays. Places for
  *                                     nodes that the cell does not have are not
  *                                     looked at, and are 0 after an answer; after a
@@ -507,7 +588,7 @@ uint32_t sts_advance(const uint8_t *file, size_t file_length,
                      uint32_t *letter, size_t letter_length,
                      uint32_t *low, size_t low_length,
                      uint32_t *high, size_t high_length,
-                     struct sts_run *run,
+                     struct sts_moment *moment,
                      uint32_t *work_letter, size_t work_letter_length,
                      uint32_t *work_low, size_t work_low_length,
                      uint32_t *work_high, size_t work_high_length);

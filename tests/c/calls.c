@@ -147,6 +147,56 @@ static void check_header_lengths(void)
     }
 }
 
+/* A record of a cell at its limits: nodes are inputs, transistors lead from ground to
+   node 2, entries are those of node 2 at rising times. */
+static void put_record(uint8_t *at, uint32_t number)
+{
+    at[0] = number <= STS_MOST_NODES ? 1 : number <= STS_MOST_NODES + STS_MOST_TRANSISTORS ? 2 : 3;
+    at[2] = (uint8_t)(number + 1);
+    at[4] = at[0] == 3 ? 2 : at[0] == 1;
+    at[7] = at[0] == 2 ? 2 : 0;
+    at[8] = at[0] == 1 ? 0 : (uint8_t)number;
+}
+
+/* A cell that has the most of everything, records in the order of their chains. */
+static void make_longest_file(uint8_t *file)
+{
+    uint32_t i;
+
+    memset(file, 0, STS_MOST_BYTES);
+    file[0] = STS_MOST_NODES;
+    file[1] = STS_MOST_TRANSISTORS;
+    file[2] = STS_MOST_ENTRIES;
+    file[3] = STS_MOST_LETTERS;
+    file[4] = STS_MOST_HORIZON & 0xff;
+    file[5] = STS_MOST_HORIZON >> 8 & 0xff;
+    file[6] = STS_MOST_HORIZON >> 16;
+    file[8] = 1;
+    file[10] = 1 + STS_MOST_NODES;
+    file[12] = 1 + STS_MOST_NODES + STS_MOST_TRANSISTORS;
+    for (i = 1; i <= STS_MOST_NODES + STS_MOST_TRANSISTORS + STS_MOST_ENTRIES; i++)
+        put_record(file + STS_RECORD_BYTES * i, i);
+    file[STS_RECORD_BYTES * STS_MOST_NODES + 2] = 0;
+    file[STS_RECORD_BYTES * (STS_MOST_NODES + STS_MOST_TRANSISTORS) + 2] = 0;
+    file[STS_MOST_BYTES - STS_RECORD_BYTES + 2] = 0;
+}
+
+static void check_longest_file(void)
+{
+    static const uint32_t limits[STS_HEADER_LENGTH] = {
+        STS_MOST_NODES, STS_MOST_TRANSISTORS, STS_MOST_ENTRIES, STS_MOST_LETTERS, STS_MOST_HORIZON
+    };
+    uint8_t file[STS_MOST_BYTES + 2] = { 0 };
+
+    make_longest_file(file);
+    check(read_into(file, STS_MOST_BYTES, STS_HEADER_LENGTH) == STS_OK &&
+              numbers_are(limits, STS_HEADER_LENGTH),
+          "sts_read reads a cell at all its limits");
+    check(read_into(file, STS_MOST_BYTES + 1, STS_HEADER_LENGTH) == STS_LENGTH &&
+              read_into(file, STS_MOST_BYTES + 2, STS_HEADER_LENGTH) == STS_LENGTH,
+          "sts_read refuses more bytes than the limits allow with 1");
+}
+
 /*
  * A function table in memory, with more room in each column than is lent.
  */
@@ -627,16 +677,16 @@ static struct task task_of(int call, uint32_t number, size_t length)
 static uint32_t do_advance(const struct task *k, struct run *r)
 {
     struct table *t = &r->table;
-    struct sts_run run;
+    struct sts_moment moment;
     uint32_t number;
 
-    memcpy(&run, r->record, sizeof run);
-    number = sts_advance(k->file, k->file_length, TABLE(t, k), &run, WORKING(k));
+    memcpy(&moment, r->record, sizeof moment);
+    number = sts_advance(k->file, k->file_length, TABLE(t, k), &moment, WORKING(k));
     memset(r->record, SOILED, STS_RECORD_LENGTH * sizeof *r->record);
-    r->record[STS_RUN_TIME] = run.time;
-    r->record[STS_RUN_USED] = run.used;
-    memcpy(r->record + STS_RUN_VALUES, run.values, sizeof run.values);
-    memcpy(r->record + STS_RUN_CHANGES, run.changes, sizeof run.changes);
+    r->record[STS_RUN_TIME] = moment.time;
+    r->record[STS_RUN_USED] = moment.used;
+    memcpy(r->record + STS_RUN_VALUES, moment.values, sizeof moment.values);
+    memcpy(r->record + STS_RUN_CHANGES, moment.changes, sizeof moment.changes);
     return number;
 }
 
@@ -760,7 +810,7 @@ static void check_advances(void)
     struct run r;
     int i;
 
-    check(sizeof(struct sts_run) == STS_RECORD_LENGTH * sizeof(uint32_t),
+    check(sizeof(struct sts_moment) == STS_RECORD_LENGTH * sizeof(uint32_t),
           "the struct of a record has its numbers and nothing else");
     make_moment(&r, JUST_ENOUGH, 0);
     for (i = 1; i <= 3; i++) {
@@ -775,6 +825,74 @@ static void check_advances(void)
     check_task_refused(&advance, &r, STS_FINISHED, "sts_advance refuses a finished run with 10");
     r.record[STS_RUN_TIME] = STS_NEVER;
     check_task_refused(&advance, &r, STS_UNSOUND, "sts_advance refuses an unsound record with 7");
+}
+
+/* A column to a struct and back, with numbers around both: each number goes to its own
+   place, in the order of the column, and none beside. */
+static void check_conversions(void)
+{
+    struct {
+        uint32_t before[MARGIN];
+        struct sts_moment moment;
+        uint32_t after[MARGIN];
+    } held;
+    uint32_t column[STS_RECORD_LENGTH + MARGIN], back[STS_RECORD_LENGTH + MARGIN];
+    uint32_t soiled[MARGIN];
+    uint32_t i;
+
+    for (i = 0; i < STS_RECORD_LENGTH + MARGIN; i++)
+        column[i] = 0xfeed0000u + i;
+    memset(soiled, SOILED, sizeof soiled);
+    memset(&held, SOILED, sizeof held);
+    memset(back, SOILED, sizeof back);
+    sts_from_column(&held.moment, column);
+    check(held.moment.time == column[STS_RUN_TIME] && held.moment.used == column[STS_RUN_USED],
+          "sts_from_column gives the time and the used count");
+    for (i = 0; i < STS_MOST_NODES; i++)
+        check(held.moment.values[i] == column[STS_RUN_VALUES + i] &&
+                  held.moment.changes[i] == column[STS_RUN_CHANGES + i],
+              "sts_from_column gives the entries of a node");
+    check(memcmp(&held.moment, column, sizeof held.moment) == 0,
+          "a struct has the numbers of its column in their order");
+    check(memcmp(held.before, soiled, sizeof soiled) == 0 &&
+              memcmp(held.after, soiled, sizeof soiled) == 0,
+          "sts_from_column writes nothing beside the struct");
+    sts_to_column(&held.moment, back);
+    check(memcmp(back, column, STS_RECORD_LENGTH * sizeof *back) == 0,
+          "sts_to_column gives the column back");
+    check(memcmp(back + STS_RECORD_LENGTH, soiled, sizeof soiled) == 0,
+          "sts_to_column writes nothing past the column");
+}
+
+/* Started in a column, advanced in a struct, asked about and run on in a column again:
+   at each moment the same as by steps on the column. */
+static void check_in_place(void)
+{
+    const struct task step = task_of(STEP, 0, JUST_ENOUGH);
+    const struct task run = task_of(RUN, STS_NEVER, JUST_ENOUGH);
+    struct run stepped, held, last;
+    struct sts_moment moment;
+    int i;
+
+    make_moment(&stepped, JUST_ENOUGH, 0);
+    held = stepped;
+    sts_from_column(&moment, held.record);
+    for (i = 1; i <= 3; i++) {
+        check_task(&step, &stepped, i, "sts_step steps beside sts_advance");
+        soil_working();
+        check(sts_advance(inverter, sizeof inverter, TABLE(&held.table, &step), &moment,
+                          WORKING(&step)) == STS_OK,
+              "sts_advance steps a struct that came from a column");
+        sts_to_column(&moment, held.record);
+        check(memcmp(&held, &stepped, sizeof held) == 0,
+              "a step in place leaves the table and the numbers of a step on the column");
+        check_wires(&held, JUST_ENOUGH, i);
+        last = held;
+        check_task(&run, &last, 3, "sts_run goes on from a struct's column");
+    }
+    check(sts_advance(inverter, sizeof inverter, TABLE(&held.table, &step), &moment,
+                      WORKING(&step)) == STS_FINISHED,
+          "sts_advance tells the end of the run");
 }
 
 static void check_runs(void)
@@ -1023,6 +1141,7 @@ int main(void)
     check_refusals();
     check_order();
     check_header_lengths();
+    check_longest_file();
     check_fresh();
     check_choose();
     check_smaller();
@@ -1033,6 +1152,8 @@ int main(void)
     check_longest();
     check_steps();
     check_advances();
+    check_conversions();
+    check_in_place();
     check_runs();
     check_full_runs();
     check_earlier();

@@ -140,21 +140,21 @@ pub fn advance(file: &[u8], lent: &mut Lent) -> Result<u32, String> {
     // Numbers around the struct, which the call may not touch.
     let mut held = Held {
         before: [margin; MARGIN],
-        run: sts::Run::of(&lent.record),
+        moment: sts::Moment::of(&lent.record),
         after: [margin; MARGIN],
     };
     let sts::Lent { table, working, .. } = advanced.lend();
-    let in_place = sts::advance(file, table, &mut held.run, working);
+    let in_place = sts::advance(file, table, &mut held.moment, working);
     if in_place != number {
         return Err(format!(
             "sts_advance answered {in_place}, sts_step {number}"
         ));
     }
     let sts::Lent { record, .. } = stepped.lend();
-    if held.run != sts::Run::of(record) {
+    if held.moment != sts::Moment::of(record) {
         return Err(format!(
             "sts_advance left {:?}, sts_step {record:?}",
-            held.run
+            held.moment
         ));
     }
     if [held.before, held.after] != [[margin; MARGIN]; 2] {
@@ -174,6 +174,6 @@ pub fn advance(file: &[u8], lent: &mut Lent) -> Result<u32, String> {
 #[repr(C)]
 struct Held {
     before: [u32; MARGIN],
-    run: sts::Run,
+    moment: sts::Moment,
     after: [u32; MARGIN],
 }

@@ -95,7 +95,7 @@ mod raw {
             low_length: usize,
             high: *mut u32,
             high_length: usize,
-            run: *mut super::Run,
+            moment: *mut super::Moment,
             work_letter: *mut u32,
             work_letter_length: usize,
             work_low: *mut u32,
@@ -264,24 +264,24 @@ pub fn call_on_run(call: Call, file: &[u8], lent: Lent) -> u32 {
     }
 }
 
-/// The record of a run as a struct.
+/// The record of a run as a struct, `struct sts_moment` in C.
 #[derive(Clone, Debug, PartialEq)]
 #[repr(C)]
-pub struct Run {
+pub struct Moment {
     pub time: u32,
     pub used: u32,
     pub values: [u32; 24],
     pub changes: [u32; 24],
 }
 
-impl Run {
+impl Moment {
     /// The record in a column.
-    pub fn of(record: &[u32]) -> Run {
+    pub fn of(record: &[u32]) -> Moment {
         let entries = |from: usize| {
             let places = &record[from..from + 24];
             places.try_into().expect("a record has 24 places for nodes")
         };
-        Run {
+        Moment {
             time: record[0],
             used: record[1],
             values: entries(2),
@@ -294,7 +294,7 @@ impl Run {
 pub fn advance(
     file: &[u8],
     table: [&mut [u32]; 3],
-    run: &mut Run,
+    moment: &mut Moment,
     working: [&mut [u32]; 3],
 ) -> u32 {
     let [letter, low, high] = table;
@@ -311,7 +311,7 @@ pub fn advance(
             low.len(),
             high.as_mut_ptr(),
             high.len(),
-            run,
+            moment,
             work_letter.as_mut_ptr(),
             work_letter.len(),
             work_low.as_mut_ptr(),
