@@ -25,7 +25,7 @@ use Rattle.rules.proofs.RunSteps.{Rests, Steps, Takes, steps-time}
 use Rattle.commute.specs.Interface.{Held, Interface}
 use Rattle.commute.specs.Lists.{Call, step, inPlace, upTo, Made, After, Reached}
 use Rattle.commute.specs.Demand.{fixedPattern, timeHeld, Stands}
-use Rattle.commute.specs.Alone.{Alone, ownTime, startAlone, stepsAlone, SoundHeld, heldAlone, Tells, QuestionsTellTheState, StartsByTheRules, EachPatternByTheRules, Alike, StepsTo, NoneLeft, ByTheRules, WithoutLettersByTheRules, FullyFixedByTheRules}
+use Rattle.commute.specs.Alone.{Alone, ownTime, startAlone, stepsAlone, SoundHeld, heldAlone, Tells, QuestionsTellTheState, StartsByTheRules, EachPatternByTheRules, Alike, StepsTo, NoneLeft, ByTheRules, WithoutLettersByTheRules, NoLettersByTheRules, FullyFixedByTheRules}
 use Rattle.commute.proofs.Fixed.{fixed-alike, pattern-lt}
 use Rattle.commute.proofs.Trace.{Ground, Trace, begun, stepped, trace-ground, steps-trace, step-answered, run-answered, started-ground}
 use Rattle.commute.proofs.Together.{fixed-letters, stateAt}
@@ -33,7 +33,7 @@ use Rattle.commute.proofs.Lawful.{answerOf, Lawful}
 use Rattle.commute.proofs.Keeps.{Keeps, keeps-given, keeps-time, keeps-tells, call-answered, calls-keep, stands-rests}
 use Rattle.commute.proofs.Begun.{start-keeps, reached-keeps}
 use Rattle.commute.proofs.Order.{same-state}
-use Rattle.commute.proofs.Alone.{aloneAt, start-alone, reads-alone, steps-fixed, AlikeAt, plain-start, plain-time, plain-step, plain-steps}
+use Rattle.commute.proofs.Alone.{aloneAt, start-alone, reads-alone, steps-fixed, AlikeAt, plain-start, plain-time, plain-step, plain-steps, none-plain, none-alike}
 
 module _ {Source R : Type 0} {K : Interface Source R} (L : Lawful K) (s : Source) (c : Circuit) (cell : K .cell s ≡ answered c) where
   -- a sound run that is held is one that a run can set out from
@@ -193,6 +193,10 @@ module _ {Source R : Type 0} {K : Interface Source R} (L : Lawful K) (s : Source
 pub without-letters-by-the-rules : {Source R : Type 0} {K : Interface Source R} → Lawful K → WithoutLettersByTheRules K
 unfolding WithoutLettersByTheRules
 without-letters-by-the-rules L s c cell plain = plain-rules L s c cell plain
+
+pub no-letters-by-the-rules : {Source R : Type 0} {K : Interface Source R} → Lawful K → NoLettersByTheRules K
+unfolding NoLettersByTheRules
+no-letters-by-the-rules {K = K} L s c cell none = (none-plain c (L .legal s c cell) none, λ h. none-alike c none (momentGiven (h .table) (K .stated c (h .run))))
 
 -- every letter fixed
 pub fully-fixed-by-the-rules : {Source R : Type 0} {K : Interface Source R} → Lawful K → FullyFixedByTheRules K

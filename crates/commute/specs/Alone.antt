@@ -109,6 +109,10 @@ pub record ByTheRules {Source R : Type 0} (K : Interface Source R) (s : Source) 
 unfoldable pub WithoutLettersByTheRules : {Source R : Type 0} → Interface Source R → Type 0
 WithoutLettersByTheRules {Source} K = (s : Source) (c : Circuit) → K .cell s ≡ answered c → withoutLetters c ≡ true → ByTheRules K s c
 
+-- A cell of no letters is without letters, and all patterns of whatever is held are alike: there is one.
+unfoldable pub NoLettersByTheRules : {Source R : Type 0} → Interface Source R → Type 0
+NoLettersByTheRules {Source} {R} K = (s : Source) (c : Circuit) → K .cell s ≡ answered c → c .letters ≡ 0 → (withoutLetters c ≡ true) × ((h : Held R) → Alike K c h)
+
 -- Every letter fixed: at a picosecond at which both runs stand, the fixed run and, at the pattern with the letters fixed, the first tell
 -- what the rules for one pattern give, step by step.
 unfoldable pub FullyFixedByTheRules : {Source R : Type 0} → Interface Source R → Type 0

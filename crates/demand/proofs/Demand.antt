@@ -10,7 +10,7 @@ use Rattle.cell.proofs.Read.{circuit-of-cell}
 use Rattle.commute.specs.Interface.{Interface}
 use Rattle.commute.proofs.Lawful.{Lawful}
 use Rattle.commute.proofs.Order.{order-makes-no-difference}
-use Rattle.commute.proofs.Rules.{questions-tell, starts-by-the-rules, each-pattern-by-the-rules, without-letters-by-the-rules, fully-fixed-by-the-rules}
+use Rattle.commute.proofs.Rules.{questions-tell, starts-by-the-rules, each-pattern-by-the-rules, without-letters-by-the-rules, no-letters-by-the-rules, fully-fixed-by-the-rules}
 use Rattle.demand.specs.Demand.{Demands, DemandsFromC, DemandsByValue, FixedFileIsRead, FixedValueIsChecked}
 use Rattle.demand.proofs.FromC.{from-c-lawful}
 use Rattle.demand.proofs.ByValue.{by-value-lawful}
@@ -21,6 +21,7 @@ demands L = record {
   starts = starts-by-the-rules L;
   each-pattern = each-pattern-by-the-rules L;
   without-letters = without-letters-by-the-rules L;
+  no-letters = no-letters-by-the-rules L;
   fully-fixed = fully-fixed-by-the-rules L;
   questions = questions-tell L;
 }

@@ -11,7 +11,7 @@ use Rattle.format.specs.Fixing.{Fixing, fixed, fixedFile}
 use Rattle.cell.specs.Value.{circuitOf, cellOf}
 use Rattle.commute.specs.Interface.{Interface}
 use Rattle.commute.specs.Demand.{OrderMakesNoDifference}
-use Rattle.commute.specs.Alone.{QuestionsTellTheState, StartsByTheRules, EachPatternByTheRules, WithoutLettersByTheRules, FullyFixedByTheRules}
+use Rattle.commute.specs.Alone.{QuestionsTellTheState, StartsByTheRules, EachPatternByTheRules, WithoutLettersByTheRules, NoLettersByTheRules, FullyFixedByTheRules}
 use Rattle.demand.specs.FromC.{fromC}
 use Rattle.demand.specs.ByValue.{byValue}
 
@@ -20,6 +20,7 @@ pub record Demands {Source R : Type 0} (K : Interface Source R) : Type 0 where
   pub starts : StartsByTheRules K
   pub each-pattern : EachPatternByTheRules K
   pub without-letters : WithoutLettersByTheRules K
+  pub no-letters : NoLettersByTheRules K
   pub fully-fixed : FullyFixedByTheRules K
   pub questions : QuestionsTellTheState K
 
