@@ -1,6 +1,6 @@
 // What a step works out before its descents, as entries of the working table: the roots of a step (specs/Roots.antt).
 // Promise: values and next changes are those of the lent table; touched and kept functions are rules 2 and 3 at every pattern.
-// No room in the working table is an ordinary answer.
+// No room in the working table is an ordinary answer, which comes only where every row of its columns is used.
 ghost use mathlib.Core.Path.{_≡_};
 ghost use mathlib.Core.Bool.{true, false, cond};
 ghost use Prim.Native.Nat.{_+_, _<_};
