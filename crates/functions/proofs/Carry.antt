@@ -44,12 +44,12 @@ module _ {letters : ℕ} {t : Table} (m : ℕ) (f low high : ℕ → ℕ) (few :
 
   -- no room for the low part
   pub first-full : {l w h ix : List ℕ} {r : Put} → Outcome t (store letters 0 low t) l w h ix r → r .full ≡ true → Outcome t (store letters 0 f t) l w h ix r
-  first-full o full = outcome-stops o (store letters 0 f t) full (rw whole (omega (arith, second-stored .extends .longer, join-extends m first second .longer)))
+  first-full o full = outcome-stops o (store letters 0 f t) full (rw whole (extends-trans (second-stored .extends) (join-extends m first second)))
 
   -- none for the high part
   pub second-full : {l w h ix : List ℕ} {r : Put} → Outcome (store letters 0 low t .table) (store letters 0 high (store letters 0 low t .table)) l w h ix r → r .full ≡ true
       → Outcome t (store letters 0 f t) l w h ix r
-  second-full o full = outcome-extends (outcome-stops o (store letters 0 f t) full (rw whole (join-extends m first second .longer))) (first-stored .extends)
+  second-full o full = outcome-extends (outcome-stops o (store letters 0 f t) full (rw whole (join-extends m first second))) (first-stored .extends)
 
   -- the root
   pub joined : {l w h ix : List ℕ} {r : Put} (i j : ℕ) → i ≡ store letters 0 low t .entry → j ≡ store letters 0 high (store letters 0 low t .table) .entry

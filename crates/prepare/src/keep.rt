@@ -1,13 +1,13 @@
 // Rule 3: the kept functions of the transistors, by rising number, with the matrix of joined-functions.
 ghost use mathlib.Core.Path.{_≡_};
-ghost use mathlib.Core.Bool.{false, cond};
+ghost use mathlib.Core.Bool.{true, false, cond};
 ghost use Prim.Native.Nat.{ℕ, _+_, _-_, _<_};
 ghost use lib.ListN.{getD};
 ghost use lib.Dec.{eqb};
 ghost use Rattle.format.specs.Circuit.{firstNodeNumber};
 ghost use Rattle.diagram.specs.Table.{numberAt};
 ghost use Rattle.functions.specs.Open.{Open};
-ghost use Rattle.working.specs.Grown.{bit, Grown};
+ghost use Rattle.working.specs.Grown.{bit, Crowded, Grown};
 ghost use Rattle.working.specs.Many.{held, AllUsed, cell, Matrixed, linkedNumber};
 ghost use Rattle.rules.specs.Group.{betweenInner};
 ghost use Rattle.net.specs.Net.{nodesPlace, transistorsPlace, at as atPlace, netTransistor, netCircuit};
@@ -116,7 +116,7 @@ fn link_kept(
 ) -> [[u32; 24]; 24]
     requires { ⌜ Laid (netCircuit (now net)) (now net) × (i < atPlace (now net) transistorsPlace) ⌝ }
     requires { ⌜ Open k (now letter) (now low) (now high) (now index) (now used) × (kept < now used) × ((x y : ℕ) → x < 24 → y < 24 → cell joined x y < now used) ⌝ }
-    ensures { λ r. ⌜ ((now (used .exit) ≡ 0 → ⊥) → Matrixed k (held (now (letter .entry)) (now (low .entry)) (now (high .entry)) (now (used .entry))) (λ x y p. cond (betweenInner (netCircuit (now (net .entry))) (netTransistor (now (net .entry)) i)) (linkedNumber (numberAt k (held (now (letter .entry)) (now (low .entry)) (now (high .entry)) (now (used .entry))) kept p) (numberAt k (held (now (letter .entry)) (now (low .entry)) (now (high .entry)) (now (used .entry))) (cell joined x y) p) (numberAt k (held (now (letter .entry)) (now (low .entry)) (now (high .entry)) (now (used .entry))) (cell joined x (netTransistor (now (net .entry)) i .first - 2)) p) (numberAt k (held (now (letter .entry)) (now (low .entry)) (now (high .entry)) (now (used .entry))) (cell joined (netTransistor (now (net .entry)) i .second - 2) y) p) (numberAt k (held (now (letter .entry)) (now (low .entry)) (now (high .entry)) (now (used .entry))) (cell joined x (netTransistor (now (net .entry)) i .second - 2)) p) (numberAt k (held (now (letter .entry)) (now (low .entry)) (now (high .entry)) (now (used .entry))) (cell joined (netTransistor (now (net .entry)) i .first - 2) y) p)) (numberAt k (held (now (letter .entry)) (now (low .entry)) (now (high .entry)) (now (used .entry))) (cell joined x y) p)) (now (letter .exit)) (now (low .exit)) (now (high .exit)) (now (index .exit)) (now (used .exit)) r) ⌝ }
+    ensures { λ r. ⌜ ((now (used .exit) ≡ 0 → ⊥) → Matrixed k (held (now (letter .entry)) (now (low .entry)) (now (high .entry)) (now (used .entry))) (λ x y p. cond (betweenInner (netCircuit (now (net .entry))) (netTransistor (now (net .entry)) i)) (linkedNumber (numberAt k (held (now (letter .entry)) (now (low .entry)) (now (high .entry)) (now (used .entry))) kept p) (numberAt k (held (now (letter .entry)) (now (low .entry)) (now (high .entry)) (now (used .entry))) (cell joined x y) p) (numberAt k (held (now (letter .entry)) (now (low .entry)) (now (high .entry)) (now (used .entry))) (cell joined x (netTransistor (now (net .entry)) i .first - 2)) p) (numberAt k (held (now (letter .entry)) (now (low .entry)) (now (high .entry)) (now (used .entry))) (cell joined (netTransistor (now (net .entry)) i .second - 2) y) p) (numberAt k (held (now (letter .entry)) (now (low .entry)) (now (high .entry)) (now (used .entry))) (cell joined x (netTransistor (now (net .entry)) i .second - 2)) p) (numberAt k (held (now (letter .entry)) (now (low .entry)) (now (high .entry)) (now (used .entry))) (cell joined (netTransistor (now (net .entry)) i .first - 2) y) p)) (numberAt k (held (now (letter .entry)) (now (low .entry)) (now (high .entry)) (now (used .entry))) (cell joined x y) p)) (now (letter .exit)) (now (low .exit)) (now (high .exit)) (now (index .exit)) (now (used .exit)) r) × (now (used .exit) ≡ 0 → Crowded k (held (now (letter .entry)) (now (low .entry)) (now (high .entry)) (now (used .entry))) (now (letter .exit)) (now (low .exit)) (now (high .exit)) (now (index .exit))) ⌝ }
 {
     if kept == 0 {
         return joined;
@@ -157,7 +157,7 @@ pub fn keep_all(
 ) -> Kept
     requires { ⌜ Laid (netCircuit (now net)) (now net) ⌝ }
     requires { ⌜ Open k (now letter) (now low) (now high) (now index) used × AllUsed 26 values used × AllUsed 26 touched used × Bits k (held (now letter) (now low) (now high) used) values (firstNodeNumber + atPlace (now net) nodesPlace) ⌝ }
-    ensures { λ r. ⌜ (r .full ≡ false → KeptAll (netCircuit (now (net .entry))) (atPlace (now (net .entry)) nodesPlace) k (held (now (letter .entry)) (now (low .entry)) (now (high .entry)) used) values touched (atPlace (now (net .entry)) transistorsPlace) (now (letter .exit)) (now (low .exit)) (now (high .exit)) (now (index .exit)) (r .used) (r .entries)) ⌝ }
+    ensures { λ r. ⌜ (r .full ≡ false → KeptAll (netCircuit (now (net .entry))) (atPlace (now (net .entry)) nodesPlace) k (held (now (letter .entry)) (now (low .entry)) (now (high .entry)) used) values touched (atPlace (now (net .entry)) transistorsPlace) (now (letter .exit)) (now (low .exit)) (now (high .exit)) (now (index .exit)) (r .used) (r .entries)) × (r .full ≡ true → Crowded k (held (now (letter .entry)) (now (low .entry)) (now (high .entry)) used) (now (letter .exit)) (now (low .exit)) (now (high .exit)) (now (index .exit))) ⌝ }
 {
     let count = net[net::TRANSISTORS];
     let mut joined = identity();

@@ -1,13 +1,13 @@
 // What a step works out before its descents, as entries of the working table: the roots of a step (specs/Roots.antt).
 // Promise: values and next changes are those of the lent table; touched and kept functions are rules 2 and 3 at every pattern.
-// No room in the working table is an ordinary answer.
+// No room in the working table is an ordinary answer, which comes only where every row of its columns is used.
 ghost use mathlib.Core.Path.{_≡_};
 ghost use mathlib.Core.Bool.{true, false, cond};
 ghost use Prim.Native.Nat.{_+_, _<_};
-ghost use lib.ListN.{getD};
+ghost use lib.ListN.{length, getD};
 ghost use Rattle.format.specs.Circuit.{firstNodeNumber};
 ghost use Rattle.table.specs.Holds.{Sized};
-ghost use Rattle.functions.specs.Open.{Legible};
+ghost use Rattle.functions.specs.Open.{Legible, Open};
 ghost use Rattle.working.specs.Many.{held, AllUsed};
 ghost use Rattle.rules.specs.State.{isInner};
 ghost use Rattle.rules.specs.Group.{labelAt, groups};
@@ -105,7 +105,7 @@ pub fn prepare(
 ) -> Prepared
     requires { ⌜ Laid (netCircuit (now net)) (now net) × Legible k (now tletter) (now tlow) (now thigh) tused × Sized (now letter) (now low) (now high) (now index) ⌝ }
     requires { ⌜ AllUsed (firstNodeNumber + atPlace (now net) nodesPlace) before tused × AllUsed (firstNodeNumber + atPlace (now net) nodesPlace) after tused × AllUsed (firstNodeNumber + atPlace (now net) nodesPlace) pending tused × Bits k (held (now tletter) (now tlow) (now thigh) tused) before (firstNodeNumber + atPlace (now net) nodesPlace) × Bits k (held (now tletter) (now tlow) (now thigh) tused) after (firstNodeNumber + atPlace (now net) nodesPlace) ⌝ }
-    ensures { λ r. ⌜ (r .full ≡ false → Roots (now (net .entry)) k (held (now (tletter .entry)) (now (tlow .entry)) (now (thigh .entry)) tused) before after pending all only (now (letter .exit)) (now (low .exit)) (now (high .exit)) (now (index .exit)) (r .used) (r .roots)) ⌝ }
+    ensures { λ r. ⌜ (r .full ≡ false → Roots (now (net .entry)) k (held (now (tletter .entry)) (now (tlow .entry)) (now (thigh .entry)) tused) before after pending all only (now (letter .exit)) (now (low .exit)) (now (high .exit)) (now (index .exit)) (r .used) (r .roots)) × (r .full ≡ true → Open k (now (letter .exit)) (now (low .exit)) (now (high .exit)) (now (index .exit)) (length (now (letter .exit)))) ⌝ }
 {
     begin(letter, low, high, index, k);
     let count = net[net::NODES] as usize + 2;

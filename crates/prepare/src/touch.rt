@@ -9,7 +9,7 @@ ghost use Rattle.format.specs.Legal.{isInput};
 ghost use Rattle.diagram.specs.Pattern.{patterns};
 ghost use Rattle.diagram.specs.Table.{numberAt};
 ghost use Rattle.functions.specs.Open.{Open, Legible};
-ghost use Rattle.working.specs.Grown.{Means, bit, Grown};
+ghost use Rattle.working.specs.Grown.{Means, bit, Crowded, Grown};
 ghost use Rattle.working.specs.Many.{held, AllUsed, Filled};
 ghost use Rattle.net.specs.Net.{nodesPlace, transistorsPlace, at as atPlace, netTransistor, netCircuit};
 ghost use Rattle.net.specs.Laid.{Laid};
@@ -132,7 +132,7 @@ fn touch_groups(
 ) -> Many
     requires { ⌜ Laid (netCircuit (now net)) (now net) ⌝ }
     requires { ⌜ Open k (now letter) (now low) (now high) (now index) used × AllUsed 26 changed used × Bits k (held (now letter) (now low) (now high) used) changed 26 ⌝ }
-    ensures { λ r. ⌜ (r .full ≡ false → Filled 26 k (held (now (letter .entry)) (now (low .entry)) (now (high .entry)) used) (λ g p. bit (touchedBy (netCircuit (now (net .entry))) only (λ n. one k (held (now (letter .entry)) (now (low .entry)) (now (high .entry)) used) (getD changed n 0) p) (netCircuit (now (net .entry)) .transistors) g)) (now (letter .exit)) (now (low .exit)) (now (high .exit)) (now (index .exit)) (r .used) (r .entries)) ⌝ }
+    ensures { λ r. ⌜ (r .full ≡ false → Filled 26 k (held (now (letter .entry)) (now (low .entry)) (now (high .entry)) used) (λ g p. bit (touchedBy (netCircuit (now (net .entry))) only (λ n. one k (held (now (letter .entry)) (now (low .entry)) (now (high .entry)) used) (getD changed n 0) p) (netCircuit (now (net .entry)) .transistors) g)) (now (letter .exit)) (now (low .exit)) (now (high .exit)) (now (index .exit)) (r .used) (r .entries)) × (r .full ≡ true → Crowded k (held (now (letter .entry)) (now (low .entry)) (now (high .entry)) used) (now (letter .exit)) (now (low .exit)) (now (high .exit)) (now (index .exit))) ⌝ }
 {
     let count = net[net::TRANSISTORS];
     let mut out = [0u32; 26];
@@ -220,7 +220,7 @@ pub fn touch_all(
     requires { ⌜ Laid (netCircuit (now net)) (now net) ⌝ }
     requires { ⌜ Legible k (now tletter) (now tlow) (now thigh) tused × AllUsed (firstNodeNumber + atPlace (now net) nodesPlace) before tused × Bits k (held (now tletter) (now tlow) (now thigh) tused) before (firstNodeNumber + atPlace (now net) nodesPlace) × Bits k (held (now tletter) (now tlow) (now thigh) tused) after (firstNodeNumber + atPlace (now net) nodesPlace) ⌝ }
     requires { ⌜ Open k (now letter) (now low) (now high) (now index) used × ((n : ℕ) → n < firstNodeNumber + atPlace (now net) nodesPlace → Means k (held (now letter) (now low) (now high) used) (getD values n 0) (numberAt k (held (now tletter) (now tlow) (now thigh) tused) (getD after n 0))) ⌝ }
-    ensures { λ r. ⌜ (r .full ≡ false → Filled 26 k (held (now (letter .entry)) (now (low .entry)) (now (high .entry)) used) (λ g p. bit (touchedLabel (netCircuit (now (net .entry))) (firstNodeNumber + atPlace (now (net .entry)) nodesPlace) k (held (now (tletter .entry)) (now (tlow .entry)) (now (thigh .entry)) tused) before after all only p g)) (now (letter .exit)) (now (low .exit)) (now (high .exit)) (now (index .exit)) (r .used) (r .entries)) ⌝ }
+    ensures { λ r. ⌜ (r .full ≡ false → Filled 26 k (held (now (letter .entry)) (now (low .entry)) (now (high .entry)) used) (λ g p. bit (touchedLabel (netCircuit (now (net .entry))) (firstNodeNumber + atPlace (now (net .entry)) nodesPlace) k (held (now (tletter .entry)) (now (tlow .entry)) (now (thigh .entry)) tused) before after all only p g)) (now (letter .exit)) (now (low .exit)) (now (high .exit)) (now (index .exit)) (r .used) (r .entries)) × (r .full ≡ true → Crowded k (held (now (letter .entry)) (now (low .entry)) (now (high .entry)) used) (now (letter .exit)) (now (low .exit)) (now (high .exit)) (now (index .exit))) ⌝ }
 {
     if all {
         return Many {

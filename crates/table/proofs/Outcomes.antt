@@ -1,5 +1,5 @@
 -- Columns that hold a table: finding in them, adding to them, and what callers carry on.
-use mathlib.Core.Path.{_≡_, refl, sym, _∙_, ap, subst}
+use mathlib.Core.Path.{_≡_, refl, sym, _∙_, ap, subst, subst₂}
 use mathlib.Core.Logic.{⊎-elim}
 use mathlib.Core.List.{List, [], _∷_, _++_}
 use mathlib.Core.Bool.{Bool, true, false, true≢false}
@@ -70,6 +70,7 @@ module _ {l w h ix : List ℕ} {t : Table} {used : ℕ} (s : Holds l w h ix t us
     full = sym (le-ltb (length l) (length t) holds-fits);
     entry = λ _. refl;
     holds = λ _. s;
+    crowded = λ z. absurd (true≢false (sym z));
     kept = holds-kept (extends-refl t);
   }
 
@@ -92,14 +93,18 @@ module _ {t : Table} {s : Stored} {l w h ix : List ℕ} {r : Put} (o : Outcome t
 
   -- a later step's outcome is one of the whole
   pub outcome-extends : {v : Table} → Extends v t → Outcome v s l w h ix r
-  outcome-extends e = record { full = o .full; entry = o .entry; holds = o .holds; kept = kept-extends e (o .kept) }
+  outcome-extends e = record { full = o .full; entry = o .entry; holds = o .holds; crowded = o .crowded; kept = kept-extends e (o .kept) }
 
   -- where a part does not fit, the whole does not
-  pub outcome-stops : (v : Stored) → r .full ≡ true → length (s .table) ≤ length (v .table) → Outcome t v l w h ix r
-  outcome-stops v e le = record {
-    full = e ∙ sym (lt-ltb (length l) (length (v .table)) (omega (arith, outcome-over e)));
+  pub outcome-stops : (v : Stored) → r .full ≡ true → Extends (s .table) (v .table) → Outcome t v l w h ix r
+  outcome-stops v e x = record {
+    full = e ∙ sym (lt-ltb (length l) (length (v .table)) (omega (arith, outcome-over e, x .longer)));
     entry = λ z. true-false (r .full) e z;
     holds = λ z. true-false (r .full) e z;
+    crowded = λ z.
+        subst (λ (u : Table). Holds l w h ix u (length l))
+        (ap (take (length l)) (sym (extends-take (s .table) (v .table) x)) ∙ take-take (length l) (length (s .table)) (v .table) (omega (arith, outcome-over e)))
+        (o .crowded z);
     kept = o .kept;
   }
 
@@ -135,6 +140,7 @@ module _ {l w h ix : List ℕ} {t : Table} {used : ℕ} (s : Holds l w h ix t us
         full = sym (le-ltb (length l) (length t) (holds-fits s));
         entry = λ _. e;
         holds = λ _. s;
+        crowded = λ z. absurd (true≢false (sym z));
         kept = holds-kept s (extends-refl t);
       }
 
@@ -153,6 +159,10 @@ module _ {l w h ix : List ℕ} {t : Table} {used : ℕ} (s : Holds l w h ix t us
         full = sym (lt-ltb (length l) (length (t ++ x ∷ [])) (simp length-append (omega (arith, s .long))));
         entry = λ z. absurd (true≢false z);
         holds = λ z. absurd (true≢false z);
+        crowded = λ _.
+            let z : used ≡ length l = omega (arith, s .ready .fits) in
+            subst₂ (λ (u : Table) (n : ℕ). Holds l w h ix u n)
+            (sym (ap (λ (n : ℕ). take n (t ++ x ∷ [])) (sym z ∙ s .long) ∙ extends-take t (t ++ x ∷ []) (extends-append t (x ∷ [])))) z s;
         kept = holds-kept s (extends-refl t);
       }
 
@@ -187,5 +197,6 @@ module _ {l w h ix : List ℕ} {t : Table} {used : ℕ} (s : Holds l w h ix t us
         full = sym (le-ltb (length (set l used k)) (length (t ++ x ∷ [])) (holds-fits z));
         entry = λ _. s .long;
         holds = λ _. z;
+        crowded = λ e. absurd (true≢false (sym e));
         kept = holds-kept z (extends-append t (x ∷ []));
       }

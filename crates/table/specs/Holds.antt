@@ -45,11 +45,12 @@ pub record Kept (l w h : List ℕ) (size : ℕ) (t : Table) : Type 0 where
   pub fits : length t ≤ size
   pub table : tableOf (columns l w h) (length t) ≡ t
 
--- what a function that stores in the table t is to leave, and its answer: `s` where it fits
+-- what a function that stores in the table t is to leave, and its answer: `s` where it fits; else as much of `s` as there are rows
 pub record Outcome (t : Table) (s : Stored) (l w h ix : List ℕ) (r : Put) : Type 0 where
   pub full : r .full ≡ ltb (length l) (length (s .table))
   pub entry : r .full ≡ false → r .entry ≡ s .entry
   pub holds : r .full ≡ false → Holds l w h ix (s .table) (r .used)
+  pub crowded : r .full ≡ true → Holds l w h ix (take (length l) (s .table)) (length l)
   pub kept : Kept l w h (length l) t
 
 -- the place of an entry among the first n rows, or n

@@ -1,7 +1,7 @@
 -- Laws of entries by what they mean, and of what grows.
 use mathlib.Core.Path.{_≡_, refl, sym, _∙_, ap, subst₂}
 use mathlib.Core.List.{List}
-use mathlib.Core.Bool.{true, false, cond}
+use mathlib.Core.Bool.{true, false, true≢false, cond}
 use Prim.Native.Nat.{ℕ, suc, _-_, _<_, _≤_}
 use native.Mathlib.Omega.{arith}
 use lib.ListN.{length, getD}
@@ -19,11 +19,12 @@ use Rattle.diagram.proofs.Store.{IsStored, store-stored, store-number}
 use Rattle.diagram.proofs.Shannon.{split, store-halves, number-past, number-split}
 use Rattle.table.specs.declared.Put.{Put}
 use Rattle.table.specs.Holds.{columns, Outcome}
-use Rattle.table.proofs.Outcomes.{holds-table}
+use Rattle.table.proofs.Outcomes.{holds-table, outcome-over}
 use Rattle.functions.specs.Open.{Legible, Open, Operand}
 use Rattle.functions.proofs.Carry.{legible-sound, legible-long, letter-at, low-at, high-at, open-next}
 use Rattle.functions.proofs.Halving.{Halves}
 use Rattle.working.specs.Grown.{Means, Is, Grown}
+use Rattle.working.proofs.Crowd.{crowded-first, crowded-from}
 
 -- an entry of a sound table means its function in every extension
 pub means-extends : {letters : ℕ} {t u : Table} {e : ℕ} {f : ℕ → ℕ} → letters ≤ mostLetters → Sound letters t → Extends t u → Means letters t e f → Means letters u e f
@@ -38,7 +39,7 @@ means-same m h = record { within = m .within; number = λ p q. m .number p q ∙
 
 -- the same of an answer
 pub grown-same : {letters : ℕ} {t : Table} {f g : ℕ → ℕ} {l w h ix : List ℕ} {r : Put} → Grown letters t f l w h ix r → ((p : ℕ) → p < patterns letters → f p ≡ g p) → Grown letters t g l w h ix r
-grown-same g same = record { opened = g .opened; extends = g .extends; means = λ e. means-same (g .means e) same }
+grown-same g same = record { opened = g .opened; extends = g .extends; means = λ e. means-same (g .means e) same; crowded = g .crowded }
 
 -- entries 0 and 1 are the tests that fail and pass everywhere
 pub is-zero : {letters : ℕ} {t : Table} → letters ≤ mostLetters → Sound letters t → Is letters t 0 (λ p. false)
@@ -71,21 +72,22 @@ module _ {letters : ℕ} {l w h ix : List ℕ} {used : ℕ} (o : Open letters l 
         opened = λ e. open-next open-few (s .sound) (q .holds e);
         extends = λ e. rw (holds-table (q .holds e)) (s .extends);
         means = λ e. rw (holds-table (q .holds e), q .entry e) record { within = s .within; number = s .number };
+        crowded = λ e. crowded-first open-few (s .sound) (s .extends) (open-sound .three) (q .kept .fits) (omega (arith, outcome-over q e)) (q .crowded e);
       }
 
 -- growth on growth
 pub grown-then : {letters : ℕ} {t : Table} {f g : ℕ → ℕ} {l1 w1 h1 ix1 l2 w2 h2 ix2 : List ℕ} {q r : Put} → Grown letters t f l1 w1 h1 ix1 q → q .full ≡ false
     → Grown letters (tableOf (columns l1 w1 h1) (q .used)) g l2 w2 h2 ix2 r → Grown letters t g l2 w2 h2 ix2 r
-grown-then a room b = record { opened = b .opened; extends = λ e. extends-trans (a .extends room) (b .extends e); means = b .means }
+grown-then a room b = record { opened = b .opened; extends = λ e. extends-trans (a .extends room) (b .extends e); means = b .means; crowded = λ e. crowded-from (a .extends room) (b .crowded e) }
 
--- a full answer
-pub grown-full : {letters : ℕ} {t : Table} {f : ℕ → ℕ} {l w h ix : List ℕ} {r : Put} → r .full ≡ true → Grown letters t f l w h ix r
-grown-full {r = r} e = record { opened = λ z. true-false (r .full) e z; extends = λ z. true-false (r .full) e z; means = λ z. true-false (r .full) e z }
+-- a full answer is one for every function
+pub grown-full : {letters : ℕ} {t : Table} {f g : ℕ → ℕ} {l w h ix : List ℕ} {r : Put} → Grown letters t g l w h ix r → r .full ≡ true → Grown letters t f l w h ix r
+grown-full {r = r} q e = record { opened = λ z. true-false (r .full) e z; extends = λ z. true-false (r .full) e z; means = λ z. true-false (r .full) e z; crowded = q .crowded }
 
 -- an entry that is there already
 pub grown-there : {letters : ℕ} {l w h ix : List ℕ} {used e : ℕ} {f : ℕ → ℕ} → Open letters l w h ix used → Means letters (tableOf (columns l w h) used) e f
     → Grown letters (tableOf (columns l w h) used) f l w h ix (record { full = false; entry = e; used = used })
-grown-there o m = record { opened = λ z. o; extends = λ z. extends-refl _; means = λ z. m }
+grown-there o m = record { opened = λ z. o; extends = λ z. extends-refl _; means = λ z. m; crowded = λ z. absurd (true≢false (sym z)) }
 
 -- Choices with the constants.
 module _ {letters : ℕ} {l w h ix : List ℕ} {used : ℕ} (o : Open letters l w h ix used) where

@@ -1,3 +1,4 @@
+pub mod Crowd
 pub mod Grow
 pub mod Fill
 pub mod Linking

@@ -1,7 +1,7 @@
 -- Entries of the working table by what they mean, and what a function that makes one leaves.
 use mathlib.Core.Path.{_≡_}
 use mathlib.Core.List.{List}
-use mathlib.Core.Bool.{Bool, false, cond}
+use mathlib.Core.Bool.{Bool, true, false, cond}
 use Prim.Native.Nat.{ℕ, _<_}
 use lib.ListN.{length}
 use Rattle.diagram.specs.Pattern.{patterns}
@@ -24,8 +24,14 @@ bit b = cond b 1 0
 abbrev pub Is : ℕ → Table → ℕ → (ℕ → Bool) → Type 0
 Is letters t e test = Means letters t e (λ p. bit (test p))
 
--- the answer is full; or the columns hold a sound extension of the table t, in which the entry has the numbers of a function
+-- no room: the columns hold a sound extension of the table t that takes all their rows
+pub record Crowded (letters : ℕ) (t : Table) (l w h ix : List ℕ) : Type 0 where
+  pub opened : Open letters l w h ix (length l)
+  pub extends : Extends t (tableOf (columns l w h) (length l))
+
+-- the columns hold a sound extension of the table t, in which the entry has the numbers of a function; or the answer is full
 pub record Grown (letters : ℕ) (t : Table) (f : ℕ → ℕ) (l w h ix : List ℕ) (r : Put) : Type 0 where
   pub opened : r .full ≡ false → Open letters l w h ix (r .used)
   pub extends : r .full ≡ false → Extends t (tableOf (columns l w h) (r .used))
   pub means : r .full ≡ false → Means letters (tableOf (columns l w h) (r .used)) (r .entry) f
+  pub crowded : r .full ≡ true → Crowded letters t l w h ix

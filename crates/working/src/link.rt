@@ -1,11 +1,11 @@
 // The matrix of joined-functions after a transistor between two inner nodes: 24 by 24 entries, by value.
 ghost use mathlib.Core.Path.{_≡_};
-ghost use mathlib.Core.Bool.{false};
+ghost use mathlib.Core.Bool.{true, false};
 ghost use Prim.Native.Nat.{ℕ, _<_};
 ghost use lib.ListN.{getD};
 ghost use Rattle.diagram.specs.Table.{numberAt};
 ghost use Rattle.functions.specs.Open.{Open};
-ghost use Rattle.working.specs.Grown.{Grown};
+ghost use Rattle.working.specs.Grown.{Crowded, Grown};
 ghost use Rattle.working.specs.Many.{held, AllUsed, Filled, cell, Matrixed, also, linkedNumber};
 use crate::both;
 use crate::either;
@@ -93,7 +93,7 @@ fn link_cells(
     b: [u32; 24],
 ) -> Row
     requires { ⌜ Open k (now letter) (now low) (now high) (now index) used × (xa < used) × (xb < used) × AllUsed 24 row used × AllUsed 24 a used × AllUsed 24 b used ⌝ }
-    ensures { λ r. ⌜ (r .full ≡ false → Filled 24 k (held (now (letter .entry)) (now (low .entry)) (now (high .entry)) used) (λ y p. also (also (numberAt k (held (now (letter .entry)) (now (low .entry)) (now (high .entry)) used) (getD row y 0) p) (numberAt k (held (now (letter .entry)) (now (low .entry)) (now (high .entry)) used) xb p) (numberAt k (held (now (letter .entry)) (now (low .entry)) (now (high .entry)) used) (getD a y 0) p)) (numberAt k (held (now (letter .entry)) (now (low .entry)) (now (high .entry)) used) xa p) (numberAt k (held (now (letter .entry)) (now (low .entry)) (now (high .entry)) used) (getD b y 0) p)) (now (letter .exit)) (now (low .exit)) (now (high .exit)) (now (index .exit)) (r .used) (r .row)) ⌝ }
+    ensures { λ r. ⌜ (r .full ≡ false → Filled 24 k (held (now (letter .entry)) (now (low .entry)) (now (high .entry)) used) (λ y p. also (also (numberAt k (held (now (letter .entry)) (now (low .entry)) (now (high .entry)) used) (getD row y 0) p) (numberAt k (held (now (letter .entry)) (now (low .entry)) (now (high .entry)) used) xb p) (numberAt k (held (now (letter .entry)) (now (low .entry)) (now (high .entry)) used) (getD a y 0) p)) (numberAt k (held (now (letter .entry)) (now (low .entry)) (now (high .entry)) used) xa p) (numberAt k (held (now (letter .entry)) (now (low .entry)) (now (high .entry)) used) (getD b y 0) p)) (now (letter .exit)) (now (low .exit)) (now (high .exit)) (now (index .exit)) (r .used) (r .row)) × (r .full ≡ true → Crowded k (held (now (letter .entry)) (now (low .entry)) (now (high .entry)) used) (now (letter .exit)) (now (low .exit)) (now (high .exit)) (now (index .exit))) ⌝ }
 {
     let mut out = row;
     let mut now = used;
@@ -134,7 +134,7 @@ fn link_row(
     second: [u32; 24],
 ) -> Row
     requires { ⌜ Open k (now letter) (now low) (now high) (now index) used × (kept < used) × (a < 24) × (b < 24) × AllUsed 24 row used × AllUsed 24 first used × AllUsed 24 second used ⌝ }
-    ensures { λ r. ⌜ (r .full ≡ false → Filled 24 k (held (now (letter .entry)) (now (low .entry)) (now (high .entry)) used) (λ y p. linkedNumber (numberAt k (held (now (letter .entry)) (now (low .entry)) (now (high .entry)) used) kept p) (numberAt k (held (now (letter .entry)) (now (low .entry)) (now (high .entry)) used) (getD row y 0) p) (numberAt k (held (now (letter .entry)) (now (low .entry)) (now (high .entry)) used) (getD row a 0) p) (numberAt k (held (now (letter .entry)) (now (low .entry)) (now (high .entry)) used) (getD second y 0) p) (numberAt k (held (now (letter .entry)) (now (low .entry)) (now (high .entry)) used) (getD row b 0) p) (numberAt k (held (now (letter .entry)) (now (low .entry)) (now (high .entry)) used) (getD first y 0) p)) (now (letter .exit)) (now (low .exit)) (now (high .exit)) (now (index .exit)) (r .used) (r .row)) ⌝ }
+    ensures { λ r. ⌜ (r .full ≡ false → Filled 24 k (held (now (letter .entry)) (now (low .entry)) (now (high .entry)) used) (λ y p. linkedNumber (numberAt k (held (now (letter .entry)) (now (low .entry)) (now (high .entry)) used) kept p) (numberAt k (held (now (letter .entry)) (now (low .entry)) (now (high .entry)) used) (getD row y 0) p) (numberAt k (held (now (letter .entry)) (now (low .entry)) (now (high .entry)) used) (getD row a 0) p) (numberAt k (held (now (letter .entry)) (now (low .entry)) (now (high .entry)) used) (getD second y 0) p) (numberAt k (held (now (letter .entry)) (now (low .entry)) (now (high .entry)) used) (getD row b 0) p) (numberAt k (held (now (letter .entry)) (now (low .entry)) (now (high .entry)) used) (getD first y 0) p)) (now (letter .exit)) (now (low .exit)) (now (high .exit)) (now (index .exit)) (r .used) (r .row)) × (r .full ≡ true → Crowded k (held (now (letter .entry)) (now (low .entry)) (now (high .entry)) used) (now (letter .exit)) (now (low .exit)) (now (high .exit)) (now (index .exit))) ⌝ }
 {
     let p = both(letter, low, high, index, used, k, kept, row[a]);
     if p.full {
@@ -181,7 +181,7 @@ pub fn link(
     joined: [[u32; 24]; 24],
 ) -> [[u32; 24]; 24]
     requires { ⌜ Open k (now letter) (now low) (now high) (now index) (now used) × (kept < now used) × (a < 24) × (b < 24) × ((x y : ℕ) → x < 24 → y < 24 → cell joined x y < now used) ⌝ }
-    ensures { λ r. ⌜ ((now (used .exit) ≡ 0 → ⊥) → Matrixed k (held (now (letter .entry)) (now (low .entry)) (now (high .entry)) (now (used .entry))) (λ x y p. linkedNumber (numberAt k (held (now (letter .entry)) (now (low .entry)) (now (high .entry)) (now (used .entry))) kept p) (numberAt k (held (now (letter .entry)) (now (low .entry)) (now (high .entry)) (now (used .entry))) (cell joined x y) p) (numberAt k (held (now (letter .entry)) (now (low .entry)) (now (high .entry)) (now (used .entry))) (cell joined x a) p) (numberAt k (held (now (letter .entry)) (now (low .entry)) (now (high .entry)) (now (used .entry))) (cell joined b y) p) (numberAt k (held (now (letter .entry)) (now (low .entry)) (now (high .entry)) (now (used .entry))) (cell joined x b) p) (numberAt k (held (now (letter .entry)) (now (low .entry)) (now (high .entry)) (now (used .entry))) (cell joined a y) p)) (now (letter .exit)) (now (low .exit)) (now (high .exit)) (now (index .exit)) (now (used .exit)) r) ⌝ }
+    ensures { λ r. ⌜ ((now (used .exit) ≡ 0 → ⊥) → Matrixed k (held (now (letter .entry)) (now (low .entry)) (now (high .entry)) (now (used .entry))) (λ x y p. linkedNumber (numberAt k (held (now (letter .entry)) (now (low .entry)) (now (high .entry)) (now (used .entry))) kept p) (numberAt k (held (now (letter .entry)) (now (low .entry)) (now (high .entry)) (now (used .entry))) (cell joined x y) p) (numberAt k (held (now (letter .entry)) (now (low .entry)) (now (high .entry)) (now (used .entry))) (cell joined x a) p) (numberAt k (held (now (letter .entry)) (now (low .entry)) (now (high .entry)) (now (used .entry))) (cell joined b y) p) (numberAt k (held (now (letter .entry)) (now (low .entry)) (now (high .entry)) (now (used .entry))) (cell joined x b) p) (numberAt k (held (now (letter .entry)) (now (low .entry)) (now (high .entry)) (now (used .entry))) (cell joined a y) p)) (now (letter .exit)) (now (low .exit)) (now (high .exit)) (now (index .exit)) (now (used .exit)) r) × (now (used .exit) ≡ 0 → Crowded k (held (now (letter .entry)) (now (low .entry)) (now (high .entry)) (now (used .entry))) (now (letter .exit)) (now (low .exit)) (now (high .exit)) (now (index .exit))) ⌝ }
 {
     let first = joined[a];
     let second = joined[b];

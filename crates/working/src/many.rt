@@ -1,13 +1,13 @@
 // Several functions of the lent table at once, by node number.
 ghost use mathlib.Core.Path.{_≡_};
-ghost use mathlib.Core.Bool.{false, not, cond};
+ghost use mathlib.Core.Bool.{true, false, not, cond};
 ghost use Prim.Native.Nat.{ℕ, _<_, _≤_};
 ghost use lib.ListN.{getD};
 ghost use lib.Dec.{eqb, ltb};
 ghost use Rattle.diagram.specs.Pattern.{patterns};
 ghost use Rattle.diagram.specs.Table.{numberAt};
 ghost use Rattle.functions.specs.Open.{Legible, Open};
-ghost use Rattle.working.specs.Grown.{Means, bit, Grown};
+ghost use Rattle.working.specs.Grown.{Means, bit, Crowded, Grown};
 ghost use Rattle.working.specs.Many.{held, AllUsed, Filled};
 use crate::bring;
 use crate::differ;
@@ -37,7 +37,7 @@ pub fn bring_all(
 ) -> Many
     requires { ⌜ Legible k (now tletter) (now tlow) (now thigh) tused × AllUsed count entries tused × (count ≤ 26) ⌝ }
     requires { ⌜ Open k (now letter) (now low) (now high) (now index) used ⌝ }
-    ensures { λ r. ⌜ (r .full ≡ false → Filled 26 k (held (now (letter .entry)) (now (low .entry)) (now (high .entry)) used) (λ m p. cond (ltb m count) (numberAt k (held (now (tletter .entry)) (now (tlow .entry)) (now (thigh .entry)) tused) (getD entries m 0) p) 0) (now (letter .exit)) (now (low .exit)) (now (high .exit)) (now (index .exit)) (r .used) (r .entries)) ⌝ }
+    ensures { λ r. ⌜ (r .full ≡ false → Filled 26 k (held (now (letter .entry)) (now (low .entry)) (now (high .entry)) used) (λ m p. cond (ltb m count) (numberAt k (held (now (tletter .entry)) (now (tlow .entry)) (now (thigh .entry)) tused) (getD entries m 0) p) 0) (now (letter .exit)) (now (low .exit)) (now (high .exit)) (now (index .exit)) (r .used) (r .entries)) × (r .full ≡ true → Crowded k (held (now (letter .entry)) (now (low .entry)) (now (high .entry)) used) (now (letter .exit)) (now (low .exit)) (now (high .exit)) (now (index .exit))) ⌝ }
 {
     let mut out = [0u32; 26];
     let mut now = used;
@@ -139,7 +139,7 @@ pub fn changed_all(
 ) -> Many
     requires { ⌜ Legible k (now tletter) (now tlow) (now thigh) tused × AllUsed count before tused × (count ≤ 26) × ((n p : ℕ) → n < count → p < patterns k → numberAt k (held (now tletter) (now tlow) (now thigh) tused) (getD before n 0) p ≤ 1) × ((n p : ℕ) → n < count → p < patterns k → numberAt k (held (now tletter) (now tlow) (now thigh) tused) (getD after n 0) p ≤ 1) ⌝ }
     requires { ⌜ Open k (now letter) (now low) (now high) (now index) used × ((n : ℕ) → n < count → Means k (held (now letter) (now low) (now high) used) (getD values n 0) (numberAt k (held (now tletter) (now tlow) (now thigh) tused) (getD after n 0))) ⌝ }
-    ensures { λ r. ⌜ (r .full ≡ false → Filled 26 k (held (now (letter .entry)) (now (low .entry)) (now (high .entry)) used) (λ m p. cond (ltb m count) (bit (not (eqb (numberAt k (held (now (tletter .entry)) (now (tlow .entry)) (now (thigh .entry)) tused) (getD before m 0) p) (numberAt k (held (now (tletter .entry)) (now (tlow .entry)) (now (thigh .entry)) tused) (getD after m 0) p)))) 0) (now (letter .exit)) (now (low .exit)) (now (high .exit)) (now (index .exit)) (r .used) (r .entries)) ⌝ }
+    ensures { λ r. ⌜ (r .full ≡ false → Filled 26 k (held (now (letter .entry)) (now (low .entry)) (now (high .entry)) used) (λ m p. cond (ltb m count) (bit (not (eqb (numberAt k (held (now (tletter .entry)) (now (tlow .entry)) (now (thigh .entry)) tused) (getD before m 0) p) (numberAt k (held (now (tletter .entry)) (now (tlow .entry)) (now (thigh .entry)) tused) (getD after m 0) p)))) 0) (now (letter .exit)) (now (low .exit)) (now (high .exit)) (now (index .exit)) (r .used) (r .entries)) × (r .full ≡ true → Crowded k (held (now (letter .entry)) (now (low .entry)) (now (high .entry)) used) (now (letter .exit)) (now (low .exit)) (now (high .exit)) (now (index .exit))) ⌝ }
 {
     let mut out = [0u32; 26];
     let mut now = used;

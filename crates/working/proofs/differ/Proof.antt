@@ -21,7 +21,7 @@ same-length-4 : tie.Need-same-length-4
 same-length-4 c = omega (arith, c .before .before .before .before .before .before .before .before .before .opposite .kept .1 .1 .1 .0)
 
 returns : tie.Need-returns
-returns c = grown-full (c .if1 .taken)
+returns c = grown-full (c .before .before .before .before .before .before .before .before .before .opposite .ensures) (c .if1 .taken)
 
 choose-requires : tie.Need-choose-requires
 choose-requires c κs = (

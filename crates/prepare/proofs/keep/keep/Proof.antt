@@ -7,7 +7,7 @@ use borrow.Author.Tests.{not-true, not-false}
 use Rattle.working.specs.Many.{cell}
 use Rattle.rules.specs.Group.{betweenInner}
 use Rattle.net.specs.Net.{netTransistor, netCircuit}
-use Rattle.working.proofs.Grow.{grown-full, grown-within, grown-entry}
+use Rattle.working.proofs.Grow.{grown-full, grown-then, grown-within, grown-entry}
 use Rattle.prepare.proofs.Reading.{laid-few, laid-first, laid-second, laid-between}
 use Rattle.prepare.proofs.Keeping.{keep-nowhere, keep-driven, keep-between}
 use Rattle.prepare.proofs.keep.keep.Statement.{statement}
@@ -41,7 +41,7 @@ same-length-4 : tie.Need-same-length-4
 same-length-4 c = omega (arith, c .before .before .before .before .before .before .before .before .before .conducts .kept .1 .1 .1 .1 .1 .0)
 
 returns-2 : tie.Need-returns-2
-returns-2 c = grown-full (c .if2 .taken)
+returns-2 c = grown-full (c .before .before .before .before .before .before .before .before .before .conducts .ensures) (c .if2 .taken)
 
 both-requires : tie.Need-both-requires
 both-requires c κs = (c .before .before .before .before .before .before .before .before .before .before .before .before .before .conducts .ensures .opened (c .before .before .before .before .if2 .left), grown-within (c .before .before .before .before .before .before .before .before .before .before .before .before .before .before .before .before .before .before .before .before .before .before .before .before .before .pre .1 .0) (c .before .before .before .before .before .before .before .before .before .before .before .before .before .conducts .ensures) (c .before .before .before .before .if2 .left) (c .before .before .before .before .before .before .before .before .before .before .before .before .before .before .before .before .before .before .before .before .before .before .before .before .before .pre .1 .2 _ (c .before .before .before .before .before .before .before .before .before .before .before .before .before .before .before .before .before .before .before .group-of .ensures .1)), grown-entry (c .before .before .before .before .before .before .before .before .before .before .before .before .before .before .before .before .before .before .before .before .before .before .before .before .before .pre .1 .0) (c .before .before .before .before .before .before .before .before .before .before .before .before .before .conducts .ensures) (c .before .before .before .before .if2 .left))
@@ -59,7 +59,7 @@ same-length-8 : tie.Need-same-length-8
 same-length-8 c = omega (arith, c .before .before .before .before .before .before .before .before .before .before .before .before .before .before .before .before .before .before .before .before .before .before .before .conducts .kept .1 .1 .1 .1 .1 .0, c .before .before .before .before .before .before .before .before .before .both .kept .1 .1 .1 .0)
 
 returns-3 : tie.Need-returns-3
-returns-3 c = grown-full (c .if3 .taken)
+returns-3 c = grown-full (grown-then (c .before .before .before .before .before .before .before .before .before .before .before .before .before .before .before .before .before .before .before .before .before .before .before .conducts .ensures) (c .before .before .before .before .before .before .before .before .before .before .before .before .before .before .if2 .left) (c .before .before .before .before .before .before .before .before .before .both .ensures)) (c .if3 .taken)
 
 between-inner-requires : tie.Need-between-inner-requires
 between-inner-requires c κs = (c .before .before .before .before .before .before .before .before .before .before .before .before .before .before .before .before .before .before .before .before .before .before .before .before .before .before .before .before .before .before .before .before .before .before .before .pre .0 .0 .long, c .before .before .before .before .before .before .before .before .before .before .before .before .before .before .before .before .before .before .before .before .before .before .before .before .before .before .before .before .before .before .before .before .before .before .before .pre .0 .0 .within, c .before .before .before .before .before .before .before .before .before .before .before .before .before .before .before .before .before .before .before .before .before .before .before .before .before .before .before .before .before .before .before .before .before .before .before .pre .0 .1)

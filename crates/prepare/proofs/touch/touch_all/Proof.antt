@@ -8,6 +8,7 @@ use Rattle.diagram.specs.Call.{tableOf}
 use Rattle.table.specs.Holds.{columns}
 use Rattle.net.specs.Net.{at, netCircuit}
 use Rattle.net.proofs.Laying.{nodes-length}
+use Rattle.working.proofs.Crowd.{crowded-from}
 use Rattle.working.proofs.Fill.{filled-used}
 use Rattle.prepare.proofs.Reading.{laid-legal, laid-nodes}
 use Rattle.prepare.proofs.Touching.{touch-every, changes-bits, touch-done}
@@ -18,7 +19,7 @@ every-group-requires : tie.Need-every-group-requires
 every-group-requires c κs = search needs
 
 returns : tie.Need-returns
-returns c = λ z. touch-every (netCircuit (c .before .before .before .before .before .before .before .before .before .before .args .net .now)) (2 + at (c .before .before .before .before .before .before .before .before .before .before .args .net .now) 0) (tableOf (columns (c .before .before .before .before .before .before .before .before .before .before .args .tletter .now) (c .before .before .before .before .before .before .before .before .before .before .args .tlow .now) (c .before .before .before .before .before .before .before .before .before .before .args .thigh .now)) (c .before .before .before .before .before .before .before .before .before .before .args .tused)) (c .before .before .before .before .before .before .before .before .before .before .args .before) (c .before .before .before .before .before .before .before .before .before .before .args .after) (c .before .before .before .before .before .before .before .before .before .before .args .all) (c .before .before .before .before .before .before .before .before .before .before .args .only) (c .before .if1 .taken) (c .before .before .before .before .before .before .before .before .before .before .pre .1 .1 .0) (c .every-group .ensures)
+returns c = ((λ z. touch-every (netCircuit (c .before .before .before .before .before .before .before .before .before .before .args .net .now)) (2 + at (c .before .before .before .before .before .before .before .before .before .before .args .net .now) 0) (tableOf (columns (c .before .before .before .before .before .before .before .before .before .before .args .tletter .now) (c .before .before .before .before .before .before .before .before .before .before .args .tlow .now) (c .before .before .before .before .before .before .before .before .before .before .args .thigh .now)) (c .before .before .before .before .before .before .before .before .before .before .args .tused)) (c .before .before .before .before .before .before .before .before .before .before .args .before) (c .before .before .before .before .before .before .before .before .before .before .args .after) (c .before .before .before .before .before .before .before .before .before .before .args .all) (c .before .before .before .before .before .before .before .before .before .before .args .only) (c .before .if1 .taken) (c .before .before .before .before .before .before .before .before .before .before .pre .1 .1 .0) (c .every-group .ensures)), (λ z. absurd (true≢false (sym z))))
 
 shared-slice-read-count : tie.Need-shared-slice-read-count
 shared-slice-read-count c = omega (arith, c .before .before .before .before .before .before .before .before .before .before .pre .0 .long)
@@ -45,10 +46,10 @@ same-length-4 : tie.Need-same-length-4
 same-length-4 c = omega (arith, c .before .before .before .before .before .before .before .before .before .changed-all .kept .1 .1 .1 .1 .1 .1 .1 .0)
 
 returns-2 : tie.Need-returns-2
-returns-2 c = λ z. absurd (true≢false (sym (c .if2 .taken) ∙ z))
+returns-2 c = ((λ z. absurd (true≢false (sym (c .if2 .taken) ∙ z))), (λ z. c .before .before .before .before .before .before .before .before .before .changed-all .ensures .1 z))
 
 touch-groups-requires : tie.Need-touch-groups-requires
-touch-groups-requires c κs = (c .before .before .before .before .before .before .before .before .before .before .before .before .before .before .before .before .before .before .before .before .before .before .before .before .before .before .before .before .before .pre .0, (c .before .before .before .before .before .before .before .before .before .before .before .before .before .before .changed-all .ensures (c .before .before .before .before .before .if2 .left) .opened, filled-used (c .before .before .before .before .before .before .before .before .before .before .before .before .before .before .changed-all .ensures (c .before .before .before .before .before .if2 .left)), changes-bits (tableOf (columns (c .before .before .before .before .before .before .before .before .before .before .before .before .before .before .before .before .before .before .before .before .before .before .before .before .before .before .before .before .before .args .tletter .now) (c .before .before .before .before .before .before .before .before .before .before .before .before .before .before .before .before .before .before .before .before .before .before .before .before .before .before .before .before .before .args .tlow .now) (c .before .before .before .before .before .before .before .before .before .before .before .before .before .before .before .before .before .before .before .before .before .before .before .before .before .before .before .before .before .args .thigh .now)) (c .before .before .before .before .before .before .before .before .before .before .before .before .before .before .before .before .before .before .before .before .before .before .before .before .before .before .before .before .before .args .tused)) (c .before .before .before .before .before .before .before .before .before .before .before .before .before .before .before .before .before .before .before .before .before .before .before .before .before .before .before .before .before .args .before) (c .before .before .before .before .before .before .before .before .before .before .before .before .before .before .before .before .before .before .before .before .before .before .before .before .before .before .before .before .before .args .after) (at (c .before .before .before .before .before .before .before .before .before .before .before .before .before .before .before .before .before .before .before .before .before .before .before .before .before .before .before .before .before .args .net .now) 0 + 2) (c .before .before .before .before .before .before .before .before .before .before .before .before .before .before .changed-all .ensures (c .before .before .before .before .before .if2 .left))))
+touch-groups-requires c κs = (c .before .before .before .before .before .before .before .before .before .before .before .before .before .before .before .before .before .before .before .before .before .before .before .before .before .before .before .before .before .pre .0, (c .before .before .before .before .before .before .before .before .before .before .before .before .before .before .changed-all .ensures .0 (c .before .before .before .before .before .if2 .left) .opened, filled-used (c .before .before .before .before .before .before .before .before .before .before .before .before .before .before .changed-all .ensures .0 (c .before .before .before .before .before .if2 .left)), changes-bits (tableOf (columns (c .before .before .before .before .before .before .before .before .before .before .before .before .before .before .before .before .before .before .before .before .before .before .before .before .before .before .before .before .before .args .tletter .now) (c .before .before .before .before .before .before .before .before .before .before .before .before .before .before .before .before .before .before .before .before .before .before .before .before .before .before .before .before .before .args .tlow .now) (c .before .before .before .before .before .before .before .before .before .before .before .before .before .before .before .before .before .before .before .before .before .before .before .before .before .before .before .before .before .args .thigh .now)) (c .before .before .before .before .before .before .before .before .before .before .before .before .before .before .before .before .before .before .before .before .before .before .before .before .before .before .before .before .before .args .tused)) (c .before .before .before .before .before .before .before .before .before .before .before .before .before .before .before .before .before .before .before .before .before .before .before .before .before .before .before .before .before .args .before) (c .before .before .before .before .before .before .before .before .before .before .before .before .before .before .before .before .before .before .before .before .before .before .before .before .before .before .before .before .before .args .after) (at (c .before .before .before .before .before .before .before .before .before .before .before .before .before .before .before .before .before .before .before .before .before .before .before .before .before .before .before .before .before .args .net .now) 0 + 2) (c .before .before .before .before .before .before .before .before .before .before .before .before .before .before .changed-all .ensures .0 (c .before .before .before .before .before .if2 .left))))
 
 same-length-5 : tie.Need-same-length-5
 same-length-5 c = omega (arith, c .before .before .before .before .before .before .before .before .before .before .before .before .before .before .before .before .before .before .before .before .before .before .before .changed-all .kept .1 .1 .1 .1 .0, c .before .before .before .before .before .before .before .before .touch-groups .kept .1 .1 .0)
@@ -63,7 +64,7 @@ same-length-8 : tie.Need-same-length-8
 same-length-8 c = omega (arith, c .before .before .before .before .before .before .before .before .before .before .before .before .before .before .before .before .before .before .before .before .before .before .before .changed-all .kept .1 .1 .1 .1 .1 .1 .1 .0, c .before .before .before .before .before .before .before .before .touch-groups .kept .1 .1 .1 .1 .1 .0)
 
 returns-3 : tie.Need-returns-3
-returns-3 c = λ z. touch-done (tableOf (columns (c .before .before .before .before .before .before .before .before .before .before .before .before .before .before .before .before .before .before .before .before .before .before .before .before .before .before .before .before .before .before .before .before .before .before .before .before .before .before .args .tletter .now) (c .before .before .before .before .before .before .before .before .before .before .before .before .before .before .before .before .before .before .before .before .before .before .before .before .before .before .before .before .before .before .before .before .before .before .before .before .before .before .args .tlow .now) (c .before .before .before .before .before .before .before .before .before .before .before .before .before .before .before .before .before .before .before .before .before .before .before .before .before .before .before .before .before .before .before .before .before .before .before .before .before .before .args .thigh .now)) (c .before .before .before .before .before .before .before .before .before .before .before .before .before .before .before .before .before .before .before .before .before .before .before .before .before .before .before .before .before .before .before .before .before .before .before .before .before .before .args .tused)) (c .before .before .before .before .before .before .before .before .before .before .before .before .before .before .before .before .before .before .before .before .before .before .before .before .before .before .before .before .before .before .before .before .before .before .before .before .before .before .args .before) (c .before .before .before .before .before .before .before .before .before .before .before .before .before .before .before .before .before .before .before .before .before .before .before .before .before .before .before .before .before .before .before .before .before .before .before .before .before .before .args .after) (at (c .before .before .before .before .before .before .before .before .before .before .before .before .before .before .before .before .before .before .before .before .before .before .before .before .before .before .before .before .before .before .before .before .before .before .before .before .before .before .args .net .now) 0 + 2) (c .before .before .before .before .before .before .before .before .before .before .before .before .before .before .before .before .before .before .before .before .before .before .before .changed-all .ensures (c .before .before .before .before .before .before .before .before .before .before .before .before .before .before .if2 .left)) (netCircuit (c .before .before .before .before .before .before .before .before .before .before .before .before .before .before .before .before .before .before .before .before .before .before .before .before .before .before .before .before .before .before .before .before .before .before .before .before .before .before .args .net .now)) (laid-legal _ (c .before .before .before .before .before .before .before .before .before .before .before .before .before .before .before .before .before .before .before .before .before .before .before .before .before .before .before .before .before .before .before .before .before .before .before .before .before .before .pre .0)) (laid-nodes _ (c .before .before .before .before .before .before .before .before .before .before .before .before .before .before .before .before .before .before .before .before .before .before .before .before .before .before .before .before .before .before .before .before .before .before .before .before .before .before .pre .0)) (c .before .before .before .before .before .before .before .before .before .before .before .before .before .before .before .before .before .before .before .before .before .before .before .before .before .before .before .before .before .before .before .before .before .before .before .before .before .before .args .all) (c .before .before .before .before .before .before .before .before .before .before .before .before .before .before .before .before .before .before .before .before .before .before .before .before .before .before .before .before .before .before .before .before .before .before .before .before .before .before .args .only) (2 + at (c .before .before .before .before .before .before .before .before .before .before .before .before .before .before .before .before .before .before .before .before .before .before .before .before .before .before .before .before .before .before .before .before .before .before .before .before .before .before .args .net .now) 0) (c .before .before .before .before .before .before .before .before .before .before .before .before .before .before .before .before .before .before .before .before .before .before .before .before .before .before .before .before .before .if1 .left) (omega arith) (omega (arith, nodes-length (c .before .before .before .before .before .before .before .before .before .before .before .before .before .before .before .before .before .before .before .before .before .before .before .before .before .before .before .before .before .before .before .before .before .before .before .before .before .before .args .net .now))) (c .before .before .before .before .before .before .before .before .touch-groups .ensures z)
+returns-3 c = ((λ z. touch-done (tableOf (columns (c .before .before .before .before .before .before .before .before .before .before .before .before .before .before .before .before .before .before .before .before .before .before .before .before .before .before .before .before .before .before .before .before .before .before .before .before .before .before .args .tletter .now) (c .before .before .before .before .before .before .before .before .before .before .before .before .before .before .before .before .before .before .before .before .before .before .before .before .before .before .before .before .before .before .before .before .before .before .before .before .before .before .args .tlow .now) (c .before .before .before .before .before .before .before .before .before .before .before .before .before .before .before .before .before .before .before .before .before .before .before .before .before .before .before .before .before .before .before .before .before .before .before .before .before .before .args .thigh .now)) (c .before .before .before .before .before .before .before .before .before .before .before .before .before .before .before .before .before .before .before .before .before .before .before .before .before .before .before .before .before .before .before .before .before .before .before .before .before .before .args .tused)) (c .before .before .before .before .before .before .before .before .before .before .before .before .before .before .before .before .before .before .before .before .before .before .before .before .before .before .before .before .before .before .before .before .before .before .before .before .before .before .args .before) (c .before .before .before .before .before .before .before .before .before .before .before .before .before .before .before .before .before .before .before .before .before .before .before .before .before .before .before .before .before .before .before .before .before .before .before .before .before .before .args .after) (at (c .before .before .before .before .before .before .before .before .before .before .before .before .before .before .before .before .before .before .before .before .before .before .before .before .before .before .before .before .before .before .before .before .before .before .before .before .before .before .args .net .now) 0 + 2) (c .before .before .before .before .before .before .before .before .before .before .before .before .before .before .before .before .before .before .before .before .before .before .before .changed-all .ensures .0 (c .before .before .before .before .before .before .before .before .before .before .before .before .before .before .if2 .left)) (netCircuit (c .before .before .before .before .before .before .before .before .before .before .before .before .before .before .before .before .before .before .before .before .before .before .before .before .before .before .before .before .before .before .before .before .before .before .before .before .before .before .args .net .now)) (laid-legal _ (c .before .before .before .before .before .before .before .before .before .before .before .before .before .before .before .before .before .before .before .before .before .before .before .before .before .before .before .before .before .before .before .before .before .before .before .before .before .before .pre .0)) (laid-nodes _ (c .before .before .before .before .before .before .before .before .before .before .before .before .before .before .before .before .before .before .before .before .before .before .before .before .before .before .before .before .before .before .before .before .before .before .before .before .before .before .pre .0)) (c .before .before .before .before .before .before .before .before .before .before .before .before .before .before .before .before .before .before .before .before .before .before .before .before .before .before .before .before .before .before .before .before .before .before .before .before .before .before .args .all) (c .before .before .before .before .before .before .before .before .before .before .before .before .before .before .before .before .before .before .before .before .before .before .before .before .before .before .before .before .before .before .before .before .before .before .before .before .before .before .args .only) (2 + at (c .before .before .before .before .before .before .before .before .before .before .before .before .before .before .before .before .before .before .before .before .before .before .before .before .before .before .before .before .before .before .before .before .before .before .before .before .before .before .args .net .now) 0) (c .before .before .before .before .before .before .before .before .before .before .before .before .before .before .before .before .before .before .before .before .before .before .before .before .before .before .before .before .before .if1 .left) (omega arith) (omega (arith, nodes-length (c .before .before .before .before .before .before .before .before .before .before .before .before .before .before .before .before .before .before .before .before .before .before .before .before .before .before .before .before .before .before .before .before .before .before .before .before .before .before .args .net .now))) (c .before .before .before .before .before .before .before .before .touch-groups .ensures .0 z)), (λ z. crowded-from (c .before .before .before .before .before .before .before .before .before .before .before .before .before .before .before .before .before .before .before .before .before .before .before .changed-all .ensures .0 (c .before .before .before .before .before .before .before .before .before .before .before .before .before .before .if2 .left) .extends) (c .before .before .before .before .before .before .before .before .touch-groups .ensures .1 z)))
 
 pub touch-all-spec : {M : Type 1} → statement M
 touch-all-spec =

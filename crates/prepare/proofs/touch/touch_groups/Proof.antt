@@ -6,6 +6,7 @@ use Prim.Native.Nat.{ℕ, _-_}
 use lib.ListN.{length-replicate, getD-replicate}
 use Rattle.diagram.specs.Call.{tableOf}
 use Rattle.table.specs.Holds.{columns}
+use Rattle.working.proofs.Crowd.{crowded-from}
 use Rattle.net.specs.Net.{netCircuit}
 use Rattle.net.proofs.Laying.{transistors-length}
 use Rattle.prepare.proofs.Reading.{laid-at, laid-below, laid-transistor, laid-nodes, laid-other}
@@ -50,7 +51,7 @@ same-length-4 : tie.Need-same-length-4 Inv-loop μ-loop
 same-length-4 c = omega (arith, c .before .before .before .before .before .before .before .before .before .before .before .before .before .before .before .before .loop .inv .index-long, c .before .before .before .before .before .before .before .before .before .touch-one .kept .1 .1 .1 .1 .1 .0)
 
 returns : tie.Need-returns Inv-loop μ-loop
-returns c = λ z. absurd (true≢false z)
+returns c = ((λ z. absurd (true≢false z)), (λ z. crowded-from (c .before .before .before .before .before .before .before .before .before .before .before .before .before .before .before .before .loop .inv .filled .extends) (c .before .before .before .before .before .before .before .before .before .touch-one .ensures .crowded (c .if1 .taken))))
 
 mul-out : tie.Need-mul-out Inv-loop μ-loop
 mul-out c = omega (arith, c .before .before .before .before .before .before .before .before .before .before .before .before .before .before .group-of .ensures .1)
@@ -80,7 +81,7 @@ same-length-8 : tie.Need-same-length-8 Inv-loop μ-loop
 same-length-8 c = omega (arith, c .before .loop .inv .index-long)
 
 returns-2 : tie.Need-returns-2 Inv-loop μ-loop
-returns-2 c = λ z. passing-done (c .before .loop .inv) (omega (arith, transistors-length (c .before .before .before .before .before .before .before .before .args .net .now), c .loop-test .left))
+returns-2 c = ((λ z. passing-done (c .before .loop .inv) (omega (arith, transistors-length (c .before .before .before .before .before .before .before .before .args .net .now), c .loop-test .left))), (λ z. absurd (true≢false (sym z))))
 
 pub touch-groups-spec : {M : Type 1} → statement M
 touch-groups-spec =

@@ -27,7 +27,7 @@ same-length-4 : tie.Need-same-length-4
 same-length-4 c = omega (arith, c .before .before .before .before .before .before .before .before .before .both .kept .1 .1 .1 .0)
 
 returns-3 : tie.Need-returns-3
-returns-3 c = grown-full (c .if3 .taken)
+returns-3 c = grown-full (c .before .before .before .before .before .before .before .before .before .both .ensures) (c .if3 .taken)
 
 either-requires : tie.Need-either-requires
 either-requires c κs = (c .before .before .before .before .before .before .before .before .before .before .before .before .before .both .ensures .opened (c .before .before .before .before .if3 .left), grown-entry (c .before .before .before .before .before .before .before .before .before .before .before .before .before .before .before .before .before .before .before .before .before .before .before .before .pre .0) (c .before .before .before .before .before .before .before .before .before .before .before .before .before .both .ensures) (c .before .before .before .before .if3 .left), grown-within (c .before .before .before .before .before .before .before .before .before .before .before .before .before .before .before .before .before .before .before .before .before .before .before .before .pre .0) (c .before .before .before .before .before .before .before .before .before .before .before .before .before .both .ensures) (c .before .before .before .before .if3 .left) (c .before .before .before .before .before .before .before .before .before .before .before .before .before .before .before .before .before .before .before .before .before .before .before .before .pre .1))

@@ -7,6 +7,8 @@ use Rattle.diagram.specs.Table.{numberAt}
 use Rattle.diagram.specs.Call.{tableOf}
 use Rattle.table.specs.Holds.{columns}
 use Rattle.working.specs.Many.{cell, linkedNumber}
+use Rattle.working.proofs.Crowd.{crowded-from}
+use Rattle.working.proofs.Grow.{open-three}
 use Rattle.working.proofs.Fill.{means-own, means-used, used-kept, RowsFilling, rows-first, rows-next, rows-done, rows-old}
 use Rattle.working.proofs.Linking.{row-kept}
 use Rattle.working.proofs.link.link.Statement.{statement}
@@ -55,7 +57,7 @@ same-length-4 : tie.Need-same-length-4 Inv-loop μ-loop
 same-length-4 c = omega (arith, c .before .before .before .before .before .before .before .before .before .before .before .before .before .before .before .before .before .loop .inv .index-long, c .before .before .before .before .before .before .before .before .before .link-row .kept .1 .1 .1 .0)
 
 returns : tie.Need-returns Inv-loop μ-loop
-returns c = λ z. absurd (z refl)
+returns c = ((λ z. absurd (z refl)), (λ z. crowded-from (c .before .before .before .before .before .before .before .before .before .before .before .before .before .before .before .before .before .loop .inv .rows .extends) (c .before .before .before .before .before .before .before .before .before .link-row .ensures .1 (c .if1 .taken))))
 
 mul-out : tie.Need-mul-out Inv-loop μ-loop
 mul-out c = omega (arith, c .before .before .before .before .before .before .before .before .before .before .before .before .before .before .before .before .before .loop-test .taken)
@@ -70,7 +72,7 @@ loop-less : tie.Need-loop-less Inv-loop μ-loop
 loop-less c = omega (arith, c .before .before .before .before .before .before .before .before .before .before .before .before .before .before .before .before .before .loop-test .taken)
 
 loop-again : tie.Need-loop-again Inv-loop μ-loop
-loop-again c = rows-next (c .before .before .before .before .before .before .before .before .before .before .before .before .before .before .before .before .before .before .loop .inv) (c .before .before .before .before .before .before .before .before .before .before .link-row .ensures (c .before .if1 .left)) (λ y p hy hp. row-kept (c .before .before .before .before .before .before .before .before .before .before .before .before .before .before .before .before .before .before .before .before .before .before .before .before .before .pre .0) (c .before .before .before .before .before .before .before .before .before .before .before .before .before .before .before .before .before .before .before .before .before .before .before .before .before .args .t10) _ _ _ (c .before .before .before .before .before .before .before .before .before .before .before .before .before .before .before .before .before .before .loop .inv) (c .before .before .before .before .before .before .before .before .before .before .before .before .before .before .before .before .before .before .before .before .before .before .before .before .before .pre .4) (c .before .before .before .before .before .before .before .before .before .before .before .before .before .before .before .before .before .before .before .before .before .before .before .before .before .pre .1) (c .before .before .before .before .before .before .before .before .before .before .before .before .before .before .before .before .before .before .before .before .before .before .before .before .before .pre .2) (c .before .before .before .before .before .before .before .before .before .before .before .before .before .before .before .before .before .before .before .before .before .before .before .before .before .pre .3) (c .before .before .before .before .before .before .before .before .before .before .before .before .before .before .before .before .before .loop-test .taken) y p hy hp) (c .before .before .before .before .before .before .before .before .before .before .before .before .before .before .before .before .before .loop-test .taken) (omega (arith, c .before .before .before .before .before .before .before .before .before .before .link-row .kept .0)) (omega (arith, c .before .before .before .before .before .before .before .before .before .before .link-row .kept .1 .0)) (omega (arith, c .before .before .before .before .before .before .before .before .before .before .link-row .kept .1 .1 .0)) (omega (arith, c .before .before .before .before .before .before .before .before .before .before .link-row .kept .1 .1 .1 .0))
+loop-again c = rows-next (c .before .before .before .before .before .before .before .before .before .before .before .before .before .before .before .before .before .before .loop .inv) (c .before .before .before .before .before .before .before .before .before .before .link-row .ensures .0 (c .before .if1 .left)) (λ y p hy hp. row-kept (c .before .before .before .before .before .before .before .before .before .before .before .before .before .before .before .before .before .before .before .before .before .before .before .before .before .pre .0) (c .before .before .before .before .before .before .before .before .before .before .before .before .before .before .before .before .before .before .before .before .before .before .before .before .before .args .t10) _ _ _ (c .before .before .before .before .before .before .before .before .before .before .before .before .before .before .before .before .before .before .loop .inv) (c .before .before .before .before .before .before .before .before .before .before .before .before .before .before .before .before .before .before .before .before .before .before .before .before .before .pre .4) (c .before .before .before .before .before .before .before .before .before .before .before .before .before .before .before .before .before .before .before .before .before .before .before .before .before .pre .1) (c .before .before .before .before .before .before .before .before .before .before .before .before .before .before .before .before .before .before .before .before .before .before .before .before .before .pre .2) (c .before .before .before .before .before .before .before .before .before .before .before .before .before .before .before .before .before .before .before .before .before .before .before .before .before .pre .3) (c .before .before .before .before .before .before .before .before .before .before .before .before .before .before .before .before .before .loop-test .taken) y p hy hp) (c .before .before .before .before .before .before .before .before .before .before .before .before .before .before .before .before .before .loop-test .taken) (omega (arith, c .before .before .before .before .before .before .before .before .before .before .link-row .kept .0)) (omega (arith, c .before .before .before .before .before .before .before .before .before .before .link-row .kept .1 .0)) (omega (arith, c .before .before .before .before .before .before .before .before .before .before .link-row .kept .1 .1 .0)) (omega (arith, c .before .before .before .before .before .before .before .before .before .before .link-row .kept .1 .1 .1 .0))
 
 same-length-5 : tie.Need-same-length-5 Inv-loop μ-loop
 same-length-5 c = omega (arith, c .before .loop .inv .letter-long)
@@ -85,7 +87,7 @@ same-length-8 : tie.Need-same-length-8 Inv-loop μ-loop
 same-length-8 c = omega (arith, c .before .loop .inv .index-long)
 
 returns-2 : tie.Need-returns-2 Inv-loop μ-loop
-returns-2 c = λ z. rows-done (c .before .loop .inv) (c .loop-test .left)
+returns-2 c = ((λ z. rows-done (c .before .loop .inv) (c .loop-test .left)), (λ z. absurd (omega (arith, z, open-three (c .before .loop .inv .rows .opened)))))
 
 pub link-spec : {M : Type 1} → statement M
 link-spec =

@@ -21,7 +21,7 @@ same-length-4 : tie.Need-same-length-4
 same-length-4 c = omega (arith, c .before .before .before .before .before .before .before .before .before .also-both .kept .1 .1 .1 .0)
 
 returns : tie.Need-returns
-returns c = grown-full (c .if1 .taken)
+returns c = grown-full (c .before .before .before .before .before .before .before .before .before .also-both .ensures) (c .if1 .taken)
 
 also-both-requires-2 : tie.Need-also-both-requires-2
 also-both-requires-2 c κs = (c .before .before .before .before .before .before .before .before .before .before .before .before .before .also-both .ensures .opened (c .before .before .before .before .if1 .left), grown-entry (c .before .before .before .before .before .before .before .before .before .before .before .before .before .before .before .before .before .before .before .before .before .before .pre .0) (c .before .before .before .before .before .before .before .before .before .before .before .before .before .also-both .ensures) (c .before .before .before .before .if1 .left), grown-within (c .before .before .before .before .before .before .before .before .before .before .before .before .before .before .before .before .before .before .before .before .before .before .pre .0) (c .before .before .before .before .before .before .before .before .before .before .before .before .before .also-both .ensures) (c .before .before .before .before .if1 .left) (c .before .before .before .before .before .before .before .before .before .before .before .before .before .before .before .before .before .before .before .before .before .before .pre .2), grown-within (c .before .before .before .before .before .before .before .before .before .before .before .before .before .before .before .before .before .before .before .before .before .before .pre .0) (c .before .before .before .before .before .before .before .before .before .before .before .before .before .also-both .ensures) (c .before .before .before .before .if1 .left) (c .before .before .before .before .before .before .before .before .before .before .before .before .before .before .before .before .before .before .before .before .before .before .pre .3))

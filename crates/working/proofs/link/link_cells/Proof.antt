@@ -2,12 +2,14 @@
 use native.Mathlib.Omega.{arith}
 use borrow.Author.Needs.{needs}
 use mathlib.Core.Bool.{true≢false}
+use mathlib.Core.Path.{sym}
 use Prim.Native.Nat.{_-_}
 use lib.ListN.{getD}
 use Rattle.diagram.specs.Table.{numberAt}
 use Rattle.diagram.specs.Call.{tableOf}
 use Rattle.table.specs.Holds.{columns}
 use Rattle.working.specs.Many.{also}
+use Rattle.working.proofs.Crowd.{crowded-from}
 use Rattle.working.proofs.Fill.{means-own, used-kept, Filling, filling-first, filling-next, filling-all}
 use Rattle.working.proofs.Linking.{cell-kept}
 use Rattle.working.proofs.link.link_cells.Statement.{statement}
@@ -56,7 +58,7 @@ same-length-4 : tie.Need-same-length-4 Inv-loop μ-loop
 same-length-4 c = omega (arith, c .before .before .before .before .before .before .before .before .before .before .before .before .before .before .before .loop .inv .index-long, c .before .before .before .before .before .before .before .before .before .link-cell .kept .1 .1 .1 .0)
 
 returns : tie.Need-returns Inv-loop μ-loop
-returns c = λ z. absurd (true≢false z)
+returns c = ((λ z. absurd (true≢false z)), (λ z. crowded-from (c .before .before .before .before .before .before .before .before .before .before .before .before .before .before .before .loop .inv .filled .extends) (c .before .before .before .before .before .before .before .before .before .link-cell .ensures .crowded (c .if1 .taken))))
 
 mul-out : tie.Need-mul-out Inv-loop μ-loop
 mul-out c = search needs
@@ -86,7 +88,7 @@ same-length-8 : tie.Need-same-length-8 Inv-loop μ-loop
 same-length-8 c = omega (arith, c .before .loop .inv .index-long)
 
 returns-2 : tie.Need-returns-2 Inv-loop μ-loop
-returns-2 c = λ z. filling-all (c .before .loop .inv) (c .loop-test .left)
+returns-2 c = ((λ z. filling-all (c .before .loop .inv) (c .loop-test .left)), (λ z. absurd (true≢false (sym z))))
 
 pub link-cells-spec : {M : Type 1} → statement M
 link-cells-spec =

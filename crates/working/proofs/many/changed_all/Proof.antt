@@ -1,7 +1,7 @@
 -- `changed_all` meets its contract: place after place. Assumes nothing.
 use native.Mathlib.Omega.{arith}
 use mathlib.Core.Bool.{true≢false}
-use mathlib.Core.Path.{refl}
+use mathlib.Core.Path.{refl, sym}
 use mathlib.Core.Bool.{not}
 use Prim.Native.Nat.{ℕ, _-_}
 use lib.ListN.{getD, length-replicate, getD-replicate}
@@ -10,6 +10,7 @@ use Rattle.diagram.specs.Table.{numberAt}
 use Rattle.diagram.specs.Call.{tableOf}
 use Rattle.table.specs.Holds.{columns}
 use Rattle.working.specs.Grown.{bit}
+use Rattle.working.proofs.Crowd.{crowded-from}
 use Rattle.working.proofs.Fill.{means-zero, means-kept, Filling, filling-first, filling-next, filling-done}
 use Rattle.working.proofs.many.changed_all.Statement.{statement}
 use Rattle.working.proofs.many.changed_all.Tie as tie
@@ -57,7 +58,7 @@ same-length-4 : tie.Need-same-length-4 Inv-loop μ-loop
 same-length-4 c = omega (arith, c .before .before .before .before .before .before .before .before .before .before .before .before .before .before .before .loop .inv .index-long, c .before .before .before .before .before .before .before .before .before .changed .kept .1 .1 .1 .1 .1 .1 .1 .0)
 
 returns : tie.Need-returns Inv-loop μ-loop
-returns c = λ z. absurd (true≢false z)
+returns c = ((λ z. absurd (true≢false z)), (λ z. crowded-from (c .before .before .before .before .before .before .before .before .before .before .before .before .before .before .before .loop .inv .filled .extends) (c .before .before .before .before .before .before .before .before .before .changed .ensures .crowded (c .if1 .taken))))
 
 mul-out : tie.Need-mul-out Inv-loop μ-loop
 mul-out c = omega (arith, c .before .before .before .before .before .before .before .before .before .before .before .before .before .before .before .before .before .before .before .before .before .before .before .pre .0 .2, c .before .before .before .before .before .before .before .before .before .before .before .before .before .before .loop-test .taken)
@@ -87,7 +88,7 @@ same-length-8 : tie.Need-same-length-8 Inv-loop μ-loop
 same-length-8 c = omega (arith, c .before .loop .inv .index-long)
 
 returns-2 : tie.Need-returns-2 Inv-loop μ-loop
-returns-2 c = λ z. filling-done (c .before .loop .inv) (c .loop-test .left)
+returns-2 c = ((λ z. filling-done (c .before .loop .inv) (c .loop-test .left)), (λ z. absurd (true≢false (sym z))))
 
 pub changed-all-spec : {M : Type 1} → statement M
 changed-all-spec =
