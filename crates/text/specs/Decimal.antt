@@ -11,3 +11,10 @@ digitsWithin (suc k) n = cond (ltb n 10) ((48 + n) ∷ []) (digitsWithin k (n / 
 
 unfoldable pub decimal : ℕ → List ℕ
 decimal n = digitsWithin (suc n) n
+
+-- a number and a space, and a number and the end of its line
+abbrev pub spaced : ℕ → List ℕ
+spaced n = decimal n ++ 32 ∷ []
+
+abbrev pub ended : ℕ → List ℕ
+ended n = decimal n ++ 10 ∷ []

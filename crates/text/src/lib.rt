@@ -2,10 +2,10 @@
 // Promise: each put function leaves the buffer with its bytes written at the place (specs/Written.antt), every other byte as it was, and answers where it ended.
 // Lines of the programs are made of these; knows nothing of cells, and reads and prints nothing.
 ghost use mathlib.Core.Path.{_≡_};
-ghost use mathlib.Core.List.{[], _∷_, _++_};
+ghost use mathlib.Core.List.{[], _∷_};
 ghost use Prim.Native.Nat.{_+_, _≤_};
 ghost use lib.ListN.{length};
-ghost use Rattle.text.specs.Decimal.{decimal};
+ghost use Rattle.text.specs.Decimal.{decimal, spaced, ended};
 ghost use Rattle.text.specs.Written.{Wrote};
 ghost use Rattle.text.specs.Number.{parsed};
 
@@ -50,8 +50,8 @@ pub fn put_decimal(out: &mut [u8], at: usize, n: u32) -> usize
 
 // A number and a space.
 pub fn put_spaced(out: &mut [u8], at: usize, n: u32) -> usize
-    requires { ⌜ at + length (decimal n ++ 32 ∷ []) ≤ length (now out) ⌝ }
-    ensures { λ r. ⌜ Wrote (now (out .entry)) (now (out .exit)) at (decimal n ++ 32 ∷ []) r ⌝ }
+    requires { ⌜ at + length (spaced n) ≤ length (now out) ⌝ }
+    ensures { λ r. ⌜ Wrote (now (out .entry)) (now (out .exit)) at (spaced n) r ⌝ }
 {
     let end = put_decimal(out, at, n);
     put_byte(out, end, b' ')
@@ -59,8 +59,8 @@ pub fn put_spaced(out: &mut [u8], at: usize, n: u32) -> usize
 
 // A number and the end of its line.
 pub fn put_ended(out: &mut [u8], at: usize, n: u32) -> usize
-    requires { ⌜ at + length (decimal n ++ 10 ∷ []) ≤ length (now out) ⌝ }
-    ensures { λ r. ⌜ Wrote (now (out .entry)) (now (out .exit)) at (decimal n ++ 10 ∷ []) r ⌝ }
+    requires { ⌜ at + length (ended n) ≤ length (now out) ⌝ }
+    ensures { λ r. ⌜ Wrote (now (out .entry)) (now (out .exit)) at (ended n) r ⌝ }
 {
     let end = put_decimal(out, at, n);
     put_byte(out, end, b'\n')
