@@ -24,14 +24,18 @@ cellLine h =
 unfoldable pub refusedLine : Refusal → List ℕ
 refusedLine why = refusedWord ++ ended (refusalNumber why)
 
+-- an even source names its letter, an odd one the complement
+abbrev pub letterForm : ℕ → List ℕ
+letterForm source = cond (eqb (source % 2) 1) complementWord letterWord
+
 -- the end of a line that says a source: low, high, a letter or its complement
 unfoldable pub sourceEnd : ℕ → List ℕ
 sourceEnd source =
     cond (eqb source 0) lowWord
     (cond (eqb source 1) highWord
-    (cond (eqb (source % 2) 1) complementWord letterWord ++ ended (letterOf source)))
+    (letterForm source ++ ended (letterOf source)))
 
-unfoldable pub roleWord : ℕ → List ℕ
+abbrev pub roleWord : ℕ → List ℕ
 roleWord role = cond (eqb role inner) innerWord inputWord
 
 unfoldable pub nodeLine : ℕ → Node → List ℕ
@@ -39,7 +43,7 @@ nodeLine number n =
     nodeWord ++ spaced number ++ roleWord (n .role) ++ spaced (n .capacitance .0) ++ startWord ++ sourceEnd (n .start)
 
 -- 0 n, 1 p
-unfoldable pub polarityWord : ℕ → List ℕ
+abbrev pub polarityWord : ℕ → List ℕ
 polarityWord polarity = cond (eqb polarity 0) nWord pWord
 
 -- the numbers of a transistor's two channel ends
