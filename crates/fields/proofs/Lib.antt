@@ -1,2 +1,3 @@
 pub mod Source
 pub mod Short
+pub mod Rows
