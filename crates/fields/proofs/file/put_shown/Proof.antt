@@ -1,47 +1,47 @@
+-- `put_shown` meets its contract: the reply decides.
+use native.Mathlib.Omega.{arith}
 use borrow.Author.Needs.{needs}
+use Rattle.fields.proofs.Shown.{file-refused, file-read, file-counted}
 use Rattle.fields.proofs.file.put_shown.Statement.{statement}
 use Rattle.fields.proofs.file.put_shown.Tie as tie
-use Rattle.fields.proofs.file.put_shown.Reads as reads
-use Rattle.fields.proofs.file.put_shown.Lts as lts
-use Rattle.cell.proofs.Cell.read.Reads as read-reads
-use Rattle.fields.proofs.file.put_records.Reads as put-records-reads
-use Rattle.fields.proofs.line.put_refused.Reads as put-refused-reads
 
--- src/file.rt:100:9
 read-requires : tie.Need-read-requires
 read-requires c κs = search needs
 
--- src/file.rt:103:36
 enum-told : tie.Need-enum-told
 enum-told c = search needs
 
--- src/file.rt:103:24
 put-records-requires : tie.Need-put-records-requires
-put-records-requires c κs = search needs
+put-records-requires c κs =
+    let s = c .before .before .before .before .before .before in
+    let r = c .before .before .before .read in
+    (file-counted (s .args .file .now) (r .result) (r .ensures) (c .before .enum-told .given .1), s .pre)
 
--- src/file.rt:104:24
 enum-known-reply : tie.Need-enum-known-reply
 enum-known-reply c = search needs
 
--- src/file.rt:104:32
 put-refused-requires : tie.Need-put-refused-requires
 put-refused-requires c κs = search needs
 
--- src/file.rt:96:1
 same-length : tie.Need-same-length
 same-length c = search needs
 
--- src/file.rt:96:1
 returns : tie.Need-returns
-returns c = search needs
+returns c =
+    let s = c .before .before .before .before .before .before .before .before .before in
+    let r = c .before .before .before .before .before .before .read in
+    rw (file-read (s .args .file .now) (r .result) (r .ensures) (c .before .before .before .before .enum-told .given .1)) (c .before .before .put-records .ensures)
 
--- src/file.rt:96:1
 same-length-2 : tie.Need-same-length-2
 same-length-2 c = search needs
 
--- src/file.rt:96:1
 returns-2 : tie.Need-returns-2
-returns-2 c = search needs
+returns-2 c =
+    let s = c .before .before .before .before .before .before .before .before .before .before in
+    let r = c .before .before .before .before .before .before .before .read in
+    let reply = c .before .before .before .before .before .reply .given in
+    let w = c .before .before .put-refused .ensures in
+    rw (file-refused (s .args .file .now) (r .result) (reply .0 .0) (r .ensures) (reply .1)) (record { wrote = w .wrote; short = omega (arith, w .short) })
 
 pub put-shown-spec : {M : Type 1} → statement M
 put-shown-spec =
