@@ -1,0 +1,4 @@
+pub mod Source
+pub mod Short
+pub mod Rows
+pub mod Shown

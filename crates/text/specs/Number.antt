@@ -1,0 +1,27 @@
+-- A decimal number read from a text: one digit at least, nothing but digits, and within 32 bits. Zeros may stand before it.
+use Prim.Native.Nat.{ℕ, _+_, _-_, _*_, _^_}
+use mathlib.Core.List.{List, [], _∷_}
+use mathlib.Core.Bool.{Bool, true, _&&_, cond}
+use lib.Dec.{leb, ltb}
+use Rattle.text.specs.declared.Parsed.{Parsed}
+use Rattle.text.specs.declared.Parsed.the-variants.{Number, Other}
+
+abbrev pub isDigit : ℕ → Bool
+isDigit byte = leb 48 byte && leb byte 57
+
+unfoldable pub allDigits : List ℕ → Bool
+allDigits [] = true
+allDigits (b ∷ bs) = isDigit b && allDigits bs
+
+-- the value of digits that stand behind a value
+unfoldable pub valueFrom : ℕ → List ℕ → ℕ
+valueFrom value [] = value
+valueFrom value (b ∷ bs) = valueFrom (value * 10 + (b - 48)) bs
+
+-- the text behind a value
+unfoldable pub parsedFrom : ℕ → List ℕ → Parsed
+parsedFrom value text = cond (allDigits text && ltb (valueFrom value text) (2 ^ 32)) (Number (valueFrom value text)) Other
+
+unfoldable pub parsed : List ℕ → Parsed
+parsed [] = Other
+parsed (b ∷ bs) = parsedFrom 0 (b ∷ bs)
