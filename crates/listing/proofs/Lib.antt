@@ -4,3 +4,4 @@ pub mod Holding
 pub mod Pieces
 pub mod Whole
 pub mod Done
+pub mod Lengths

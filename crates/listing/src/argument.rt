@@ -2,7 +2,7 @@
 use text::Parsed;
 use text::parse;
 ghost use mathlib.Core.Path.{_≡_};
-ghost use Rattle.listing.specs.Argument.{lengthOf, tableLength};
+ghost use Rattle.listing.specs.Argument.{lengthOf, LengthAs};
 
 const LEAST: u32 = 3;
 
@@ -10,7 +10,7 @@ const MOST: u32 = 65536;
 
 // A number from 3 to 65,536, or 0 for any other text.
 pub fn table_length(text: &[u8]) -> usize
-    ensures { λ r. ⌜ r ≡ tableLength (now (text .entry)) ⌝ }
+    ensures { λ r. ⌜ LengthAs (now (text .entry)) r ⌝ }
 {
     let parsed = parse(text);
     match parsed {
