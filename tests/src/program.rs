@@ -29,17 +29,31 @@ pub fn bytes(path: &Path) -> Vec<u8> {
     fs::read(path).unwrap_or_else(|error| panic!("{}: {error}", path.display()))
 }
 
+/// What a program wrote to standard output and to standard error.
+#[derive(Debug, PartialEq, Eq)]
+pub struct Written {
+    pub output: String,
+    pub errors: String,
+}
+
 /// Runs one of the tool's programs on this input and gives what it printed. An
 /// error tells why it could not be run or how it broke off.
 pub fn run(name: &str, input: &[u8]) -> Result<String, String> {
+    run_with(name, &[], input).map(|written| written.output)
+}
+
+/// The same with arguments, and with what went to standard error.
+pub fn run_with(name: &str, arguments: &[&str], input: &[u8]) -> Result<Written, String> {
     let path = in_repository("target/bin").join(name);
     let told = |error: io::Error| format!("{}: {error}", path.display());
     let mut child = Command::new(&path)
+        .args(arguments)
         .stdin(Stdio::piped())
         .stdout(Stdio::piped())
+        .stderr(Stdio::piped())
         .spawn()
         .map_err(told)?;
-    // The output is small enough for the pipe, so it may wait until all is written.
+    // What it reads is small enough for the pipe, so nothing waits for what it prints.
     let mut stdin = child.stdin.take().expect("the input is piped");
     match stdin.write_all(input) {
         Err(error) if error.kind() != io::ErrorKind::BrokenPipe => return Err(told(error)),
@@ -49,5 +63,9 @@ pub fn run(name: &str, input: &[u8]) -> Result<String, String> {
     if output.status.code().is_none() {
         return Err(format!("{}: {}", path.display(), output.status));
     }
-    String::from_utf8(output.stdout).map_err(|error| format!("{}: {error}", path.display()))
+    let text = |bytes| String::from_utf8(bytes).map_err(|error| format!("{}: {error}", path.display()));
+    Ok(Written {
+        output: text(output.stdout)?,
+        errors: text(output.stderr)?,
+    })
 }

@@ -5,9 +5,13 @@ use crate::functions::{self, Call as Operate, Columns, Operation, FIRST};
 use crate::listing::cell_line;
 use crate::refusal::Refusal;
 use crate::simulator::calls::{Call, Lent, RECORD, TIME, USED, VALUES};
+use std::ops::RangeInclusive;
 
-/// The length of the table of `waves`, and of both programs' working table.
+/// The length of the table of `waves` without an argument, and of both programs' working table.
 pub const LENGTH: usize = 4_096;
+
+/// The lengths that a table may have.
+const LENGTHS: RangeInclusive<usize> = 3..=65_536;
 
 /// All that `waves` prints of a file.
 pub fn of_file(file: &[u8]) -> String {
@@ -50,7 +54,7 @@ pub fn of_names<'a>(
 fn table_length(argument: &str) -> Option<usize> {
     let digits = argument.bytes().all(|byte| byte.is_ascii_digit());
     let number = argument.parse().ok().filter(|_| digits);
-    number.filter(|number| (1..=LENGTH).contains(number))
+    number.filter(|number| LENGTHS.contains(number))
 }
 
 /// Lists the run until it is finished; a refusal breaks it off.

@@ -5,7 +5,7 @@ use Rattle.vectors.proofs.main.Statement.{statement}
 use Rattle.vectors.proofs.main.Tie as tie
 
 abbrev Inv-loop : tie.InvT-loop
-Inv-loop count size₀ i₀ size i = size ≤ 4096
+Inv-loop count size₀ i₀ size i = size ≤ 65536
 
 abbrev μ-loop : tie.MeasureT-loop
 μ-loop count size₀ i₀ size i = count - i

@@ -1,47 +1,43 @@
--- `print_steps` ends: it counts its steps, and lends the columns on.
-use mathlib.Core.Path.{_≡_}
+-- `print_steps` ends: it counts its steps, and lends the columns on. Assumes nothing.
+use mathlib.Core.Path.{_≡_, sym}
 use Prim.Native.Nat.{_≤_, _-_}
+use native.Mathlib.Omega.{arith}
 use lib.ListN.{length}
+use lib.Seq.{length-take-le}
 use borrow.Author.Needs.{needs}
-use Rattle.listing.proofs.print_steps.Statement.{statement}
-use Rattle.listing.proofs.print_steps.Tie as tie
+use Rattle.listing.proofs.print.print_steps.Statement.{statement}
+use Rattle.listing.proofs.print.print_steps.Tie as tie
 
 abbrev Inv-loop : tie.InvT-loop
-Inv-loop cell letter₀ low₀ high₀ wletter₀ wlow₀ whigh₀ header now₀ steps₀ letter low high wletter wlow whigh now steps =
+Inv-loop cell letter₀ low₀ high₀ wletter₀ wlow₀ whigh₀ out₀ now₀ steps₀ letter low high wletter wlow whigh out now steps =
     (steps ≤ 1000001)
     × (length letter ≡ length letter₀) × (length low ≡ length low₀) × (length high ≡ length high₀)
     × (length wletter ≡ length wletter₀) × (length wlow ≡ length wlow₀) × (length whigh ≡ length whigh₀)
+    × (length out ≡ 4096)
 
 abbrev μ-loop : tie.MeasureT-loop
-μ-loop cell letter₀ low₀ high₀ wletter₀ wlow₀ whigh₀ header now₀ steps₀ letter low high wletter wlow whigh now steps =
+μ-loop cell letter₀ low₀ high₀ wletter₀ wlow₀ whigh₀ out₀ now₀ steps₀ letter low high wletter wlow whigh out now steps =
     1000001 - steps
 
 loop-holds : tie.Need-loop-holds Inv-loop μ-loop
 loop-holds c = search needs
 
-on-cell-requires : tie.Need-on-cell-requires Inv-loop μ-loop
-on-cell-requires c κs = search needs
+slice-aggregate-list-step : tie.Need-slice-aggregate-list-step Inv-loop μ-loop
+slice-aggregate-list-step c = search needs
 
-enum-told : tie.Need-enum-told Inv-loop μ-loop
-enum-told c = search needs
+list-step-requires : tie.Need-list-step-requires Inv-loop μ-loop
+list-step-requires c κs = search needs
 
-add-steps : tie.Need-add-steps Inv-loop μ-loop
-add-steps c = search needs
+array-share-prefix-out : tie.Need-array-share-prefix-out Inv-loop μ-loop
+array-share-prefix-out c = search needs
 
-print-nodes-requires : tie.Need-print-nodes-requires Inv-loop μ-loop
-print-nodes-requires c κs = search needs
+slice-aggregate-write-all : tie.Need-slice-aggregate-write-all Inv-loop μ-loop
+slice-aggregate-write-all c =
+    let step = c .before .before .before .before .before .before .before .before .before .before .before .before .before .before .list-step in
+    sym (length-take-le (step .result .end) (step .last .1 .1 .1 .1 .1 .1 .1 .1 .1 .0) (omega (arith, step .ensures .within, step .kept .1 .1 .1 .1 .1 .1 .1 .1 .1 .0)))
 
-loop-less : tie.Need-loop-less Inv-loop μ-loop
-loop-less c = search needs
-
-loop-again : tie.Need-loop-again Inv-loop μ-loop
-loop-again c = search needs
-
-enum-known-reply : tie.Need-enum-known-reply Inv-loop μ-loop
-enum-known-reply c = search needs
-
-print-stop-requires : tie.Need-print-stop-requires Inv-loop μ-loop
-print-stop-requires c κs = search needs
+write-all-requires : tie.Need-write-all-requires Inv-loop μ-loop
+write-all-requires c κs = search needs
 
 same-length : tie.Need-same-length Inv-loop μ-loop
 same-length c = search needs
@@ -63,6 +59,15 @@ same-length-6 c = search needs
 
 returns : tie.Need-returns Inv-loop μ-loop
 returns c = search needs
+
+add-steps : tie.Need-add-steps Inv-loop μ-loop
+add-steps c = search needs
+
+loop-less : tie.Need-loop-less Inv-loop μ-loop
+loop-less c = search needs
+
+loop-again : tie.Need-loop-again Inv-loop μ-loop
+loop-again c = search needs
 
 same-length-7 : tie.Need-same-length-7 Inv-loop μ-loop
 same-length-7 c = search needs
@@ -92,14 +97,11 @@ print-steps-spec =
     Inv-loop
     μ-loop
     loop-holds
-    on-cell-requires
-    enum-told
-    add-steps
-    print-nodes-requires
-    loop-less
-    loop-again
-    enum-known-reply
-    print-stop-requires
+    slice-aggregate-list-step
+    list-step-requires
+    array-share-prefix-out
+    slice-aggregate-write-all
+    write-all-requires
     same-length
     same-length-2
     same-length-3
@@ -107,6 +109,9 @@ print-steps-spec =
     same-length-5
     same-length-6
     returns
+    add-steps
+    loop-less
+    loop-again
     same-length-7
     same-length-8
     same-length-9

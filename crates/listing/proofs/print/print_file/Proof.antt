@@ -1,38 +1,8 @@
--- `print_named` lends parts of its arrays, as long as the table is to be.
-use Rattle.table.proofs.Entering.{part-long}
+-- `print_file` lends parts of its arrays, as long as the table is to be. Assumes nothing.
 use borrow.Author.Needs.{needs}
-use Rattle.vectors.proofs.print_named.Statement.{statement}
-use Rattle.vectors.proofs.print_named.Tie as tie
-
-write-all-requires : tie.Need-write-all-requires
-write-all-requires c κs = search needs
-
-slice-aggregate-write-all : tie.Need-slice-aggregate-write-all
-slice-aggregate-write-all c = search needs
-
-write-all-requires-2 : tie.Need-write-all-requires-2
-write-all-requires-2 c κs = search needs
-
-print-decimal-requires : tie.Need-print-decimal-requires
-print-decimal-requires c κs = search needs
-
-slice-aggregate-write-all-2 : tie.Need-slice-aggregate-write-all-2
-slice-aggregate-write-all-2 c = search needs
-
-write-all-requires-3 : tie.Need-write-all-requires-3
-write-all-requires-3 c κs = search needs
-
-open-read-requires : tie.Need-open-read-requires
-open-read-requires c κs = search needs
-
-slice-aggregate-write-all-3 : tie.Need-slice-aggregate-write-all-3
-slice-aggregate-write-all-3 c = search needs
-
-write-all-requires-4 : tie.Need-write-all-requires-4
-write-all-requires-4 c κs = search needs
-
-returns : tie.Need-returns
-returns c = search needs
+use Rattle.table.proofs.Entering.{part-long}
+use Rattle.listing.proofs.print.print_file.Statement.{statement}
+use Rattle.listing.proofs.print.print_file.Tie as tie
 
 buffer-requires : tie.Need-buffer-requires
 buffer-requires c κs = search needs
@@ -42,9 +12,6 @@ slice-aggregate-read-full c = search needs
 
 read-full-requires : tie.Need-read-full-requires
 read-full-requires c κs = search needs
-
-close-requires : tie.Need-close-requires
-close-requires c κs = search needs
 
 array-share-prefix-space : tie.Need-array-share-prefix-space
 array-share-prefix-space c = search needs
@@ -82,27 +49,16 @@ slice-aggregate-print-listing-7 c = search needs
 print-listing-requires : tie.Need-print-listing-requires
 print-listing-requires c κs = search needs
 
-returns-2 : tie.Need-returns-2
-returns-2 c = search needs
+returns : tie.Need-returns
+returns c = search needs
 
-pub print-named-spec : {M : Type 1} → statement M
-print-named-spec =
+pub print-file-spec : {M : Type 1} → statement M
+print-file-spec =
     tie.close
     (tie.spec
-    write-all-requires
-    slice-aggregate-write-all
-    write-all-requires-2
-    print-decimal-requires
-    slice-aggregate-write-all-2
-    write-all-requires-3
-    open-read-requires
-    slice-aggregate-write-all-3
-    write-all-requires-4
-    returns
     buffer-requires
     slice-aggregate-read-full
     read-full-requires
-    close-requires
     array-share-prefix-space
     slice-aggregate-print-listing
     array-borrow-prefix-letter
@@ -115,4 +71,4 @@ print-named-spec =
     slice-aggregate-print-listing-6
     slice-aggregate-print-listing-7
     print-listing-requires
-    returns-2)
+    returns)

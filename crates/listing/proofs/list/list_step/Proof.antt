@@ -1,0 +1,64 @@
+-- `list_step` meets its contract: what the call leaves can be read, and what is written of it is what the definitions list. Assumes nothing.
+use borrow.Author.Needs.{needs}
+use Rattle.format.specs.Legal.{checkCircuit}
+use Rattle.cell.specs.Value.{circuitOf}
+use Rattle.cell.proofs.Check.{header-kept}
+use Rattle.table.specs.Holds.{columns}
+use Rattle.advance.specs.Task.{runIn}
+use Rattle.listing.proofs.Holding.{step-holds}
+use Rattle.listing.proofs.Done.{done-entries, listed-step}
+use Rattle.listing.proofs.list.list_step.Statement.{statement}
+use Rattle.listing.proofs.list.list_step.Tie as tie
+
+on-cell-requires : tie.Need-on-cell-requires
+on-cell-requires c κs = search needs
+
+put-stepped-requires : tie.Need-put-stepped-requires
+put-stepped-requires c κs =
+    let s = c .before .before .before .before .before .before .before .before .before .before .before .before .before .before .before .before .before .before .before .before .before .before .before .before .before .before .before .before .before .before .before in
+    (done-entries (header-kept (s .args .cell)) (λ m e. step-holds (circuitOf (s .args .cell)) (columns (s .args .letter .now) (s .args .low .now) (s .args .high .now)) (columns (s .args .wletter .now) (s .args .wlow .now) (s .args .whigh .now)) (runIn (checkCircuit (circuitOf (s .args .cell))) (s .args .r)) m e) (c .before .before .before .before .before .before .before .before .before .before .before .before .before .before .before .before .before .on-cell .ensures), s .pre)
+
+is-done-requires : tie.Need-is-done-requires
+is-done-requires c κs = search needs
+
+same-length : tie.Need-same-length
+same-length c = search needs
+
+same-length-2 : tie.Need-same-length-2
+same-length-2 c = search needs
+
+same-length-3 : tie.Need-same-length-3
+same-length-3 c = search needs
+
+same-length-4 : tie.Need-same-length-4
+same-length-4 c = search needs
+
+same-length-5 : tie.Need-same-length-5
+same-length-5 c = search needs
+
+same-length-6 : tie.Need-same-length-6
+same-length-6 c = search needs
+
+same-length-7 : tie.Need-same-length-7
+same-length-7 c = search needs
+
+returns : tie.Need-returns
+returns c =
+    let s = c .before .before .before .before .before .before .before .before .before .before .before .before .before .before .before .before .before .before .before .before .before .before .before .before .before .before .before .before .before .before .before .before .before .before .before in
+    listed-step (header-kept (s .args .cell)) (λ m e. step-holds (circuitOf (s .args .cell)) (columns (s .args .letter .now) (s .args .low .now) (s .args .high .now)) (columns (s .args .wletter .now) (s .args .wlow .now) (s .args .whigh .now)) (runIn (checkCircuit (circuitOf (s .args .cell))) (s .args .r)) m e) (c .before .before .before .before .before .before .before .before .before .before .before .before .before .before .before .before .before .before .before .before .before .on-cell .ensures) (s .pre) (c .is-done .ensures) (s .args .r .time) (s .args .steps) (s .args .r .values) (c .before .before .before .put-stepped .ensures)
+
+pub list-step-spec : {M : Type 1} → statement M
+list-step-spec =
+    tie.close
+    (tie.spec
+    on-cell-requires
+    put-stepped-requires
+    is-done-requires
+    same-length
+    same-length-2
+    same-length-3
+    same-length-4
+    same-length-5
+    same-length-6
+    same-length-7
+    returns)
