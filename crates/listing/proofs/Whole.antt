@@ -92,7 +92,7 @@ module _ {c : Circuit} (legal : checkCircuit c ≡ answered c) {size : ℕ} (lea
   run-printed : (k : ℕ) → c .horizon .0 < k → printedRun k c size working ≡ runLines c size
   unfolding printedRun runLines
   run-printed k enough =
-      rw (start-fresh legal least most working w)
+      rw (legal, start-fresh c least most working w)
       (from (fitting size (startMoment c fresh))
       (λ m e.
       let h : Holding c size m = fitting-holds (startMoment c fresh) m legal least most (start-sound legal (fresh-sound (c .letters))) e in
