@@ -3,3 +3,4 @@ pub mod Short
 pub mod Rows
 pub mod Shown
 pub mod Prefix
+pub mod Examples
