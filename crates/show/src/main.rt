@@ -4,7 +4,7 @@ use fields::file::put_shown;
 
 fn main() {
     let mut space = io::buffer();
-    // longer than any cell: what is left of a longer input changes no answer
+    // longer than any cell: what is left of a longer input changes no answer (proofs/Prefix.antt of crate fields)
     let n = io::read_full(0, &mut space);
     let mut out = [0u8; 16384];
     let end = put_shown(&mut out, &space[..n]);

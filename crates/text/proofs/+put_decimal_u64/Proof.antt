@@ -4,10 +4,9 @@ use mathlib.Core.Path.{ap}
 use native.Mathlib.Omega.{arith}
 use lib.ListN.{length}
 use borrow.Author.Needs.{needs}
-use Prim.Native.Nat.{ℕ, _+_, _/_, _%_, _<_, _≤_}
+use Prim.Native.Nat.{ℕ, _+_, _%_, _<_, _≤_}
 use borrow.Fn.Kinds.{In}
 use borrow.Fn.PlainCycle.{Measures, is, falls, and}
-use Rattle.text.specs.Decimal.{decimal}
 use Rattle.text.proofs.Written.{wrote-then, wrote-room}
 use Rattle.text.proofs.Decimal.{decimal-digit, decimal-more, decimal-count}
 use Rattle.text.proofs.put_decimal_u64.Reads as put-decimal-u64

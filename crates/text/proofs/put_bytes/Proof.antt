@@ -1,9 +1,9 @@
 -- `put_bytes` meets its contract. Invariant: the first i bytes are written.
-use mathlib.Core.Path.{_≡_, refl, sym, _∙_, ap}
-use Prim.Native.Nat.{_+_, _-_, _≤_}
+use mathlib.Core.Path.{_≡_, refl}
+use Prim.Native.Nat.{_-_, _≤_}
 use native.Mathlib.Omega.{arith}
 use lib.ListN.{length}
-use lib.Seq.{paste, paste-zero, paste-suc, length-paste}
+use lib.Seq.{paste, paste-zero}
 use borrow.Author.Needs.{needs}
 use Rattle.text.proofs.Written.{paste-more, wrote-all}
 use Rattle.text.proofs.put_bytes.Statement.{statement}

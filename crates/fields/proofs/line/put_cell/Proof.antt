@@ -3,9 +3,8 @@ use mathlib.Core.List.{[], _∷_}
 use native.Mathlib.Omega.{arith}
 use lib.ListN.{length-append}
 use borrow.Author.Needs.{needs}
-use Rattle.text.specs.Decimal.{decimal, spaced, ended}
+use Rattle.text.specs.Decimal.{decimal, spaced}
 use Rattle.text.proofs.Written.{wrote-then, wrote-room}
-use Rattle.fields.specs.Words.{cellWord}
 use Rattle.fields.specs.Line.{cellLine}
 use Rattle.fields.proofs.Short.{cell-short}
 use Rattle.fields.proofs.line.put_cell.Statement.{statement}

@@ -4,7 +4,6 @@ use lib.ListN.{length-append}
 use borrow.Author.Needs.{needs}
 use Rattle.text.specs.Decimal.{spaced}
 use Rattle.text.proofs.Written.{wrote-then, wrote-room}
-use Rattle.fields.specs.Words.{endsWord}
 use Rattle.fields.specs.Line.{channelEnds}
 use Rattle.fields.proofs.line.put_ends.Statement.{statement}
 use Rattle.fields.proofs.line.put_ends.Tie as tie

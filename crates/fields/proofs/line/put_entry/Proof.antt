@@ -4,7 +4,7 @@ use lib.ListN.{length-append}
 use borrow.Author.Needs.{needs}
 use Rattle.text.specs.Decimal.{spaced}
 use Rattle.text.proofs.Written.{wrote-then, wrote-room}
-use Rattle.fields.specs.Words.{entryWord, becomesWord}
+use Rattle.fields.specs.Words.{becomesWord}
 use Rattle.fields.specs.Line.{entryTime, sourceEnd, entryLine}
 use Rattle.fields.proofs.Short.{entry-short}
 use Rattle.fields.proofs.line.put_entry.Statement.{statement}

@@ -4,7 +4,7 @@ use lib.ListN.{length-append}
 use borrow.Author.Needs.{needs}
 use Rattle.text.specs.Decimal.{spaced}
 use Rattle.text.proofs.Written.{wrote-then, wrote-room}
-use Rattle.fields.specs.Words.{nodeWord, startWord}
+use Rattle.fields.specs.Words.{startWord}
 use Rattle.fields.specs.Line.{roleWord, sourceEnd, nodeLine}
 use Rattle.fields.proofs.Short.{node-short}
 use Rattle.fields.proofs.line.put_node.Statement.{statement}

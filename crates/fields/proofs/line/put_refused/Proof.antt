@@ -5,7 +5,7 @@ use Prim.Native.Nat.{ℕ}
 use native.Mathlib.Omega.{arith}
 use lib.ListN.{length, length-append}
 use borrow.Author.Needs.{needs}
-use Rattle.text.specs.Decimal.{decimal, spaced, ended}
+use Rattle.text.specs.Decimal.{decimal, ended}
 use Rattle.text.specs.Written.{Wrote}
 use Rattle.text.proofs.Written.{wrote-then, wrote-room}
 use Rattle.fields.specs.Words.{refusedWord}

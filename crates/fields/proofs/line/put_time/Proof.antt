@@ -4,7 +4,7 @@ use lib.ListN.{length-append}
 use borrow.Author.Needs.{needs}
 use Rattle.text.specs.Decimal.{decimal}
 use Rattle.text.proofs.Written.{wrote-then, wrote-room}
-use Rattle.fields.specs.Words.{timeWord, atWord}
+use Rattle.fields.specs.Words.{atWord}
 use Rattle.fields.specs.Line.{entryTime}
 use Rattle.fields.proofs.line.put_time.Statement.{statement}
 use Rattle.fields.proofs.line.put_time.Tie as tie

@@ -5,7 +5,7 @@ use lib.ListN.{length-append}
 use borrow.Author.Needs.{needs}
 use Rattle.text.specs.Decimal.{spaced}
 use Rattle.text.proofs.Written.{wrote-then, wrote-room}
-use Rattle.fields.specs.Words.{transistorWord, ohmWord}
+use Rattle.fields.specs.Words.{ohmWord}
 use Rattle.fields.specs.Line.{polarityWord, channelEnds, transistorLine}
 use Rattle.fields.proofs.Short.{transistor-short}
 use Rattle.fields.proofs.line.put_transistor.Statement.{statement}
