@@ -1,10 +1,13 @@
 -- What is printed of a file: every field of every record in chain order, or its refusal.
-use Prim.Native.Nat.{ℕ, _+_}
+use Prim.Native.Nat.{ℕ, _+_, _*_, _≤_}
 use mathlib.Core.List.{List, [], _∷_, _++_}
+use lib.ListN.{length}
 use Rattle.refusal.specs.Answer.{Answer, refused, answered}
 use Rattle.format.specs.Circuit.{Circuit, headerOf, firstNodeNumber}
+use Rattle.format.specs.Legal.{mostNodes, mostTransistors, mostEntries}
 use Rattle.format.specs.File.{readCell}
-use Rattle.fields.specs.Line.{cellLine, refusedLine, nodeLine, transistorLine, entryLine}
+use Rattle.text.specs.Written.{Wrote}
+use Rattle.fields.specs.Line.{lineRoom, cellLine, refusedLine, nodeLine, transistorLine, entryLine}
 
 -- a line for each element, numbered from a number on
 unfoldable pub numbered : {A : Type 0} → (ℕ → A → List ℕ) → ℕ → List A → List ℕ
@@ -22,3 +25,12 @@ shown (answered c) = shownCell c
 
 unfoldable pub shownFile : List ℕ → List ℕ
 shownFile file = shown (readCell file)
+
+-- as many lines as a cell can have
+abbrev pub mostLines : ℕ
+mostLines = 1 + mostNodes + mostTransistors + mostEntries
+
+-- what a function that writes lines, at most so many, leaves
+pub record LinesWrote (most : ℕ) (before after : List ℕ) (at : ℕ) (lines : List ℕ) (end : ℕ) : Type 0 where
+  pub wrote : Wrote before after at lines end
+  pub short : length lines ≤ lineRoom * most
