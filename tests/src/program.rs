@@ -63,7 +63,8 @@ pub fn run_with(name: &str, arguments: &[&str], input: &[u8]) -> Result<Written,
     if output.status.code().is_none() {
         return Err(format!("{}: {}", path.display(), output.status));
     }
-    let text = |bytes| String::from_utf8(bytes).map_err(|error| format!("{}: {error}", path.display()));
+    let text =
+        |bytes| String::from_utf8(bytes).map_err(|error| format!("{}: {error}", path.display()));
     Ok(Written {
         output: text(output.stdout)?,
         errors: text(output.stderr)?,

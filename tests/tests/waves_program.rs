@@ -54,12 +54,23 @@ fn table_lengths() {
         for (argument, length) in LENGTHS {
             let printed = program::run_with("waves", &[argument], &vector.file);
             let expected = written(&waves::in_table(&vector.file, length));
-            assert_eq!(printed, Ok(expected), "{argument}, {}", vector.path.display());
+            assert_eq!(
+                printed,
+                Ok(expected),
+                "{argument}, {}",
+                vector.path.display()
+            );
         }
     }
 }
 
-const LENGTHS: [(&str, usize); 5] = [("3", 3), ("13", 13), ("4096", 4_096), ("65536", 65_536), ("0013", 13)];
+const LENGTHS: [(&str, usize); 5] = [
+    ("3", 3),
+    ("13", 13),
+    ("4096", 4_096),
+    ("65536", 65_536),
+    ("0013", 13),
+];
 
 /// A listing, and nothing to standard error.
 fn written(listing: &str) -> Written {

@@ -1,5 +1,4 @@
 -- `list_step` meets its contract: what the call leaves can be read, and what is written of it is what the definitions list. Assumes nothing.
-use borrow.Author.Needs.{needs}
 use Rattle.format.specs.Legal.{checkCircuit}
 use Rattle.cell.specs.Value.{circuitOf}
 use Rattle.cell.proofs.Check.{header-kept}
@@ -11,7 +10,7 @@ use Rattle.listing.proofs.list.list_step.Statement.{statement}
 use Rattle.listing.proofs.list.list_step.Tie as tie
 
 on-cell-requires : tie.Need-on-cell-requires
-on-cell-requires c κs = search needs
+on-cell-requires c κs = tt
 
 put-stepped-requires : tie.Need-put-stepped-requires
 put-stepped-requires c κs =
@@ -19,28 +18,28 @@ put-stepped-requires c κs =
     (done-entries (header-kept (s .args .cell)) (λ m e. step-holds (circuitOf (s .args .cell)) (columns (s .args .letter .now) (s .args .low .now) (s .args .high .now)) (columns (s .args .wletter .now) (s .args .wlow .now) (s .args .whigh .now)) (runIn (checkCircuit (circuitOf (s .args .cell))) (s .args .r)) m e) (c .before .before .before .before .before .before .before .before .before .before .before .before .before .before .before .before .before .on-cell .ensures), s .pre)
 
 is-done-requires : tie.Need-is-done-requires
-is-done-requires c κs = search needs
+is-done-requires c κs = tt
 
 same-length : tie.Need-same-length
-same-length c = search needs
+same-length c = c .before .before .before .before .before .before .before .before .before .before .before .before .before .before .before .before .before .before .before .before .before .on-cell .kept .1 .1 .0
 
 same-length-2 : tie.Need-same-length-2
-same-length-2 c = search needs
+same-length-2 c = c .before .before .before .before .before .before .before .before .before .before .before .before .before .before .before .before .before .before .before .before .before .on-cell .kept .1 .1 .1 .0
 
 same-length-3 : tie.Need-same-length-3
-same-length-3 c = search needs
+same-length-3 c = c .before .before .before .before .before .before .before .before .before .before .before .before .before .before .before .before .before .before .before .before .before .on-cell .kept .1 .1 .1 .1 .0
 
 same-length-4 : tie.Need-same-length-4
-same-length-4 c = search needs
+same-length-4 c = c .before .before .before .before .before .before .before .before .before .before .before .before .before .before .before .before .before .before .before .before .before .on-cell .kept .1 .1 .1 .1 .1 .1 .0
 
 same-length-5 : tie.Need-same-length-5
-same-length-5 c = search needs
+same-length-5 c = c .before .before .before .before .before .before .before .before .before .before .before .before .before .before .before .before .before .before .before .before .before .on-cell .kept .1 .1 .1 .1 .1 .1 .1 .0
 
 same-length-6 : tie.Need-same-length-6
-same-length-6 c = search needs
+same-length-6 c = c .before .before .before .before .before .before .before .before .before .before .before .before .before .before .before .before .before .before .before .before .before .on-cell .kept .1 .1 .1 .1 .1 .1 .1 .1 .0
 
 same-length-7 : tie.Need-same-length-7
-same-length-7 c = search needs
+same-length-7 c = c .before .before .before .put-stepped .kept .0
 
 returns : tie.Need-returns
 returns c =
