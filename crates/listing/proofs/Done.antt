@@ -18,8 +18,8 @@ use Rattle.table.specs.Holds.{columns}
 use Rattle.record.specs.declared.Run.{Run}
 use Rattle.advance.specs.Went.{runAfter, tableAfter}
 use Rattle.run.specs.Done.{DoneAs}
-use Rattle.listing.specs.Listing.{stopLine, startedLines, steppedLines}
-use Rattle.listing.specs.Lines.{callRoom, Put, nodeLines, Entries, byReply}
+use Rattle.lines.specs.Listing.{stopLine, startedLines, steppedLines}
+use Rattle.lines.specs.Lines.{callRoom, Put, nodeLines, Entries, byReply}
 use Rattle.listing.specs.Listed.{isDone, ListedAs}
 use Rattle.listing.proofs.Holding.{Holding, held-entries, held-start, held-step}
 

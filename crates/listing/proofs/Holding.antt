@@ -31,8 +31,8 @@ use Rattle.functions.specs.Open.{Legible}
 use Rattle.functions.proofs.Carry.{sound-legible}
 use Rattle.record.specs.declared.Run.{Run}
 use Rattle.record.specs.Record.{recordOf}
-use Rattle.listing.specs.Listing.{nodeLine, linesOf, startLines, stepLines}
-use Rattle.listing.specs.Lines.{nodeLines, Entries}
+use Rattle.lines.specs.Listing.{nodeLine, linesOf, startLines, stepLines}
+use Rattle.lines.specs.Lines.{nodeLines, Entries}
 
 -- what an answered call holds in columns of a length
 pub record Holding (c : Circuit) (size : ℕ) (m : Moment) : Type 0 where

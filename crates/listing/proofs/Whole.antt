@@ -34,11 +34,11 @@ use Rattle.advance.specs.declared.Task.the-variants.{Start, Step}
 use Rattle.advance.specs.Task.{runIn, taskCall}
 use Rattle.advance.specs.Went.{zeroed, runAfter, tableAfter, workingAfter}
 use Rattle.fields.specs.Line.{cellLine}
-use Rattle.listing.specs.Listing.{lineAt, linesOf, stepLines, startedLines, steppedLines, stepOf, following, stepsFrom, runLines, cellLines, listing}
+use Rattle.lines.specs.Listing.{lineAt, linesOf, stepLines, startedLines, steppedLines, stepOf, following, stepsFrom, runLines, cellLines, listing}
 use Rattle.listing.specs.Printed.{noRun, printedSteps, printedRun, printedCell, printed}
 use Rattle.commute.proofs.Trace.{start-fresh}
 use Rattle.listing.proofs.Holding.{Holding, fitting-holds, lines-same}
-use Rattle.listing.proofs.Ends.{allowance-same}
+use Rattle.lines.proofs.Ends.{allowance-same}
 
 -- working stays legal: it is zero after an answered call
 zeroed-legal : (working : Columns) → workingLegal working ≡ true → workingLegal (zeroed working) ≡ true

@@ -13,7 +13,7 @@ use Rattle.advance.specs.declared.Task.the-variants.{Start, Step}
 use Rattle.advance.specs.Task.{taskCall}
 use Rattle.advance.specs.Went.{runAfter, tableAfter, workingAfter}
 use Rattle.fields.specs.Line.{cellLine, refusedLine}
-use Rattle.listing.specs.Listing.{startedLines, steppedLines, following}
+use Rattle.lines.specs.Listing.{startedLines, steppedLines, following}
 
 -- a record before any start
 abbrev pub noRun : Run

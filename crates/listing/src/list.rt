@@ -1,8 +1,8 @@
 // A start and a step of a run, each with its lines.
-use crate::lines::put_started;
-use crate::lines::put_stepped;
 use advance::Task;
 use cell::Cell;
+use lines::put_started;
+use lines::put_stepped;
 use record::Run;
 use refusal::Reply;
 use run::go::on_cell;
@@ -14,8 +14,8 @@ ghost use Rattle.cell.specs.Value.{circuitOf};
 ghost use Rattle.table.specs.Holds.{columns};
 ghost use Rattle.advance.specs.declared.Task.the-variants.{Start, Step};
 ghost use Rattle.advance.specs.Task.{taskCall};
-ghost use Rattle.listing.specs.Listing.{startedLines, steppedLines};
-ghost use Rattle.listing.specs.Lines.{callRoom};
+ghost use Rattle.lines.specs.Listing.{startedLines, steppedLines};
+ghost use Rattle.lines.specs.Lines.{callRoom};
 ghost use Rattle.listing.specs.Printed.{noRun};
 ghost use Rattle.listing.specs.Listed.{isDone, ListedAs};
 

@@ -9,7 +9,7 @@ use run::ask::ask_cell;
 use run::go::on_cell;
 ghost use Rattle.refusal.specs.Number.{replyNumber};
 ghost use Rattle.table.specs.Holds.{columns};
-ghost use Rattle.demand.specs.ByValue.{byValue};
+ghost use Rattle.demand.specs.ByValue.{onValue, byValue};
 ghost use Rattle.witness.specs.Holding.{held};
 
 // A fresh table.
@@ -19,10 +19,10 @@ pub fn fresh(letter: &mut [u32], low: &mut [u32], high: &mut [u32]) -> Reply
     table::fresh(letter, low, high)
 }
 
-// A start.
-pub fn start(
+// A start, a step or a run up to a picosecond: the interface has each of them by its task.
+pub fn go(
     cell: Cell,
-    used: u32,
+    task: Task,
     letter: &mut [u32],
     low: &mut [u32],
     high: &mut [u32],
@@ -31,64 +31,11 @@ pub fn start(
     work_low: &mut [u32],
     work_high: &mut [u32],
 ) -> Went
-    ensures { λ x. ⌜ byValue .Start cell used (held (now (letter .entry)) (now (low .entry)) (now (high .entry)) r) (held (now (letter .exit)) (now (low .exit)) (now (high .exit)) (x .run)) (columns (now («work_letter» .entry)) (now («work_low» .entry)) (now («work_high» .entry))) (columns (now («work_letter» .exit)) (now («work_low» .exit)) (now («work_high» .exit))) (replyNumber (x .reply)) ⌝ }
+    ensures { λ x. ⌜ onValue cell task (held (now (letter .entry)) (now (low .entry)) (now (high .entry)) r) (held (now (letter .exit)) (now (low .exit)) (now (high .exit)) (x .run)) (columns (now («work_letter» .entry)) (now («work_low» .entry)) (now («work_high» .entry))) (columns (now («work_letter» .exit)) (now («work_low» .exit)) (now («work_high» .exit))) (replyNumber (x .reply)) ⌝ }
 {
     on_cell(
         cell,
-        Task::Start(used),
-        letter,
-        low,
-        high,
-        r,
-        work_letter,
-        work_low,
-        work_high,
-    )
-}
-
-// A step.
-pub fn step(
-    cell: Cell,
-    letter: &mut [u32],
-    low: &mut [u32],
-    high: &mut [u32],
-    r: Run,
-    work_letter: &mut [u32],
-    work_low: &mut [u32],
-    work_high: &mut [u32],
-) -> Went
-    ensures { λ x. ⌜ byValue .Step cell (held (now (letter .entry)) (now (low .entry)) (now (high .entry)) r) (held (now (letter .exit)) (now (low .exit)) (now (high .exit)) (x .run)) (columns (now («work_letter» .entry)) (now («work_low» .entry)) (now («work_high» .entry))) (columns (now («work_letter» .exit)) (now («work_low» .exit)) (now («work_high» .exit))) (replyNumber (x .reply)) ⌝ }
-{
-    on_cell(
-        cell,
-        Task::Step,
-        letter,
-        low,
-        high,
-        r,
-        work_letter,
-        work_low,
-        work_high,
-    )
-}
-
-// A run up to a picosecond.
-pub fn up_to(
-    cell: Cell,
-    until: u32,
-    letter: &mut [u32],
-    low: &mut [u32],
-    high: &mut [u32],
-    r: Run,
-    work_letter: &mut [u32],
-    work_low: &mut [u32],
-    work_high: &mut [u32],
-) -> Went
-    ensures { λ x. ⌜ byValue .UpTo cell until (held (now (letter .entry)) (now (low .entry)) (now (high .entry)) r) (held (now (letter .exit)) (now (low .exit)) (now (high .exit)) (x .run)) (columns (now («work_letter» .entry)) (now («work_low» .entry)) (now («work_high» .entry))) (columns (now («work_letter» .exit)) (now («work_low» .exit)) (now («work_high» .exit))) (replyNumber (x .reply)) ⌝ }
-{
-    on_cell(
-        cell,
-        Task::Until(until),
+        task,
         letter,
         low,
         high,

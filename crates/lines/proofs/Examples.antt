@@ -7,7 +7,7 @@ use Rattle.diagram.specs.Operation.{count}
 use Rattle.rules.proofs.Opened.{opened}
 use Rattle.text.specs.Decimal.{decimal, digitsWithin}
 use Rattle.fields.specs.Line.{cellLine, refusedLine}
-use Rattle.listing.specs.Listing.{listing, cellLines, runLines, stepsFrom, linesOf}
+use Rattle.lines.specs.Listing.{listing, cellLines, runLines, stepsFrom, linesOf}
 
 -- the inverter's file, a record to a line
 abbrev inverter : List ℕ

@@ -1,4 +1,6 @@
-// The lines of a start and of a step, written into a lent buffer from a place on.
+// The lines of a start and of a step, written into a lent buffer from a place on; the listing as a whole is a definition (specs/Listing.antt).
+// Promise: the lines of a call's reply are exactly the definition's bytes, and every other byte of the buffer is as it was.
+// Crate listing makes the calls and prints; the columns are only read here, so that a wrong line is refused quickly.
 use fields::line::put_refused;
 use format::Header;
 use functions::read::count;
@@ -18,8 +20,8 @@ ghost use Rattle.diagram.specs.Call.{tableOf};
 ghost use Rattle.table.specs.Holds.{columns};
 ghost use Rattle.functions.specs.Open.{Legible};
 ghost use Rattle.fields.specs.Line.{refusedLine};
-ghost use Rattle.listing.specs.Listing.{nodeLine, endLine, stopLine};
-ghost use Rattle.listing.specs.Lines.{lineRoom, callRoom, Put, entryLine, nodeLines, Entries, byReply};
+ghost use Rattle.lines.specs.Listing.{nodeLine, endLine, stopLine};
+ghost use Rattle.lines.specs.Lines.{lineRoom, callRoom, Put, entryLine, nodeLines, Entries, byReply};
 
 // The node records are numbered from here on.
 const FIRST_NODE: u32 = 2;

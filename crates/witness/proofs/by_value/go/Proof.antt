@@ -1,8 +1,8 @@
--- `step` does by value what the demands speak of. Assumes nothing.
+-- `go` does by value what the demands speak of. Assumes nothing.
 use mathlib.Core.Path.{refl}
 use borrow.Author.Needs.{needs}
-use Rattle.witness.proofs.by_value.step.Statement.{statement}
-use Rattle.witness.proofs.by_value.step.Tie as tie
+use Rattle.witness.proofs.by_value.go.Statement.{statement}
+use Rattle.witness.proofs.by_value.go.Tie as tie
 
 on-cell-requires : tie.Need-on-cell-requires
 on-cell-requires c κs = search needs
@@ -28,8 +28,8 @@ same-length-6 c = search needs
 returns : tie.Need-returns
 returns c = let done = c .before .before .before .before .before .before .before .before .before .before .before .before .on-cell in (_, refl, done .ensures)
 
-pub step-spec : {M : Type 1} → statement M
-step-spec =
+pub go-spec : {M : Type 1} → statement M
+go-spec =
     tie.close
     (tie.spec
     on-cell-requires

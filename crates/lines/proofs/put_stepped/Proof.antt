@@ -1,7 +1,7 @@
 -- `put_stepped` meets its contract, by the reply. Assumes nothing.
 use borrow.Author.Needs.{needs}
-use Rattle.listing.proofs.lines.put_stepped.Statement.{statement}
-use Rattle.listing.proofs.lines.put_stepped.Tie as tie
+use Rattle.lines.proofs.put_stepped.Statement.{statement}
+use Rattle.lines.proofs.put_stepped.Tie as tie
 
 enum-told : tie.Need-enum-told
 enum-told c = search needs

@@ -13,8 +13,8 @@ use Rattle.text.specs.Written.{written, Wrote}
 use Rattle.text.proofs.Decimal.{decimal-short}
 use Rattle.text.proofs.Written.{wrote-then, wrote-room, wrote-length}
 use Rattle.fields.specs.Line.{LineWrote}
-use Rattle.listing.specs.Listing.{linesOf}
-use Rattle.listing.specs.Lines.{lineRoom, callRoom, Put}
+use Rattle.lines.specs.Listing.{linesOf}
+use Rattle.lines.specs.Lines.{lineRoom, callRoom, Put}
 
 -- a number of 32 bits and a byte behind it
 pub number-short : (n byte : ℕ) → n < 2 ^ 32 → length (decimal n ++ byte ∷ []) ≤ 11

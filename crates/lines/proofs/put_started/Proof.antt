@@ -1,8 +1,8 @@
 -- `put_started` meets its contract, by the reply. Assumes nothing.
 use borrow.Author.Needs.{needs}
-use Rattle.listing.proofs.Pieces.{put-line}
-use Rattle.listing.proofs.lines.put_started.Statement.{statement}
-use Rattle.listing.proofs.lines.put_started.Tie as tie
+use Rattle.lines.proofs.Pieces.{put-line}
+use Rattle.lines.proofs.put_started.Statement.{statement}
+use Rattle.lines.proofs.put_started.Tie as tie
 
 enum-told : tie.Need-enum-told
 enum-told c = search needs

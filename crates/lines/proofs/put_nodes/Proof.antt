@@ -6,10 +6,10 @@ use lib.ListN.{length}
 use borrow.Author.Needs.{needs}
 use Rattle.diagram.specs.Call.{tableOf}
 use Rattle.table.specs.Holds.{columns}
-use Rattle.listing.specs.Lines.{lineRoom, Put, nodeLines}
-use Rattle.listing.proofs.Pieces.{lines-none, lines-more, lines-all}
-use Rattle.listing.proofs.lines.put_nodes.Statement.{statement}
-use Rattle.listing.proofs.lines.put_nodes.Tie as tie
+use Rattle.lines.specs.Lines.{lineRoom, Put, nodeLines}
+use Rattle.lines.proofs.Pieces.{lines-none, lines-more, lines-all}
+use Rattle.lines.proofs.put_nodes.Statement.{statement}
+use Rattle.lines.proofs.put_nodes.Tie as tie
 
 abbrev Inv-loop : tie.InvT-loop
 Inv-loop out₀ at letter low high all before values used time k nodes end₀ i₀ out end i =

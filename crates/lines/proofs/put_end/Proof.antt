@@ -1,9 +1,9 @@
 -- `put_end` meets its contract: a word and two numbers. Assumes nothing.
 use borrow.Author.Needs.{needs}
 use native.Mathlib.Omega.{arith}
-use Rattle.listing.proofs.Pieces.{number-short, put-three}
-use Rattle.listing.proofs.lines.put_end.Statement.{statement}
-use Rattle.listing.proofs.lines.put_end.Tie as tie
+use Rattle.lines.proofs.Pieces.{number-short, put-three}
+use Rattle.lines.proofs.put_end.Statement.{statement}
+use Rattle.lines.proofs.put_end.Tie as tie
 
 slice-aggregate-put-bytes : tie.Need-slice-aggregate-put-bytes
 slice-aggregate-put-bytes c = search needs

@@ -4,10 +4,10 @@ use borrow.Author.Needs.{needs}
 use borrow.Author.Tests.{eq-eqb, ne-eqb}
 use Rattle.refusal.specs.Number.{refusalNumber}
 use Rattle.fields.specs.Line.{refusedLine}
-use Rattle.listing.specs.Listing.{endLine}
-use Rattle.listing.proofs.Pieces.{put-yes, put-no, put-line}
-use Rattle.listing.proofs.lines.put_stop.Statement.{statement}
-use Rattle.listing.proofs.lines.put_stop.Tie as tie
+use Rattle.lines.specs.Listing.{endLine}
+use Rattle.lines.proofs.Pieces.{put-yes, put-no, put-line}
+use Rattle.lines.proofs.put_stop.Statement.{statement}
+use Rattle.lines.proofs.put_stop.Tie as tie
 
 refusal-number-requires : tie.Need-refusal-number-requires
 refusal-number-requires c κs = search needs

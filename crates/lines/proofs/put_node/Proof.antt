@@ -1,9 +1,9 @@
 -- `put_node` meets its contract: three numbers, each with a byte behind it. Assumes nothing.
 use borrow.Author.Needs.{needs}
 use native.Mathlib.Omega.{arith}
-use Rattle.listing.proofs.Pieces.{number-short, put-three}
-use Rattle.listing.proofs.lines.put_node.Statement.{statement}
-use Rattle.listing.proofs.lines.put_node.Tie as tie
+use Rattle.lines.proofs.Pieces.{number-short, put-three}
+use Rattle.lines.proofs.put_node.Statement.{statement}
+use Rattle.lines.proofs.put_node.Tie as tie
 
 put-spaced-requires : tie.Need-put-spaced-requires
 put-spaced-requires c κs =

@@ -22,7 +22,7 @@ use Rattle.diagram.proofs.Calls.{fresh-sound}
 use Rattle.rules.specs.Run.{Moment, startMoment, timeAfter, stepMoment, fitting}
 use Rattle.rules.proofs.Moment.{SoundMoment, start-sound, step-sound, step-time, time-within}
 use Rattle.fields.specs.Line.{cellLine, refusedLine}
-use Rattle.listing.specs.Listing.{endLine, stopLine, startLines, startedLines, steppedLines, stepOf, following, stepsFrom, runLines, cellLines, listing}
+use Rattle.lines.specs.Listing.{endLine, stopLine, startLines, startedLines, steppedLines, stepOf, following, stepsFrom, runLines, cellLines, listing}
 
 -- an answered step: there is one, and it is the step's moment
 pub step-taken : (c : Circuit) (size : ℕ) (m next : Moment) → stepOf c size m ≡ answered next → (timeAfter c m < never) × (length (next .table) ≤ size) × (next ≡ stepMoment c m)

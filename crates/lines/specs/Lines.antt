@@ -16,7 +16,7 @@ use Rattle.diagram.specs.Operation.{count}
 use Rattle.functions.specs.Open.{Legible}
 use Rattle.record.specs.declared.Run.{Run}
 use Rattle.text.specs.Written.{Wrote}
-use Rattle.listing.specs.Listing.{nodeLine, linesOf}
+use Rattle.lines.specs.Listing.{nodeLine, linesOf}
 
 -- no line is longer: three numbers of ten digits, each with a byte behind it
 abbrev pub lineRoom : ℕ

@@ -2,10 +2,10 @@
 use mathlib.Core.List.{[]}
 use borrow.Author.Needs.{needs}
 use borrow.Author.Tests.{not-true, not-false}
-use Rattle.listing.specs.Lines.{lineRoom}
-use Rattle.listing.proofs.Pieces.{put-none, put-yes, put-no}
-use Rattle.listing.proofs.lines.put_entry.Statement.{statement}
-use Rattle.listing.proofs.lines.put_entry.Tie as tie
+use Rattle.lines.specs.Lines.{lineRoom}
+use Rattle.lines.proofs.Pieces.{put-none, put-yes, put-no}
+use Rattle.lines.proofs.put_entry.Statement.{statement}
+use Rattle.lines.proofs.put_entry.Tie as tie
 
 returns : tie.Need-returns
 returns c =
