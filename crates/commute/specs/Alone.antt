@@ -122,7 +122,7 @@ FullyFixedByTheRules {Source} {R} K =
     → (size : ℕ) (first second : Held R) → Reached K s size first → Reached K fixed-one size second
     → (p : ℕ) → Stands K s c first p → Stands K fixed-one (fixed φ c) second p
     → (n : ℕ) × ((q : ℕ) → q < patterns (c .letters)
-    → let p : ℕ = fixedPattern φ (c .letters) q in
-    (stepsAlone c p (startAlone c p) n .time ≡ timeHeld K (fixed φ c) second)
-    × Tells K fixed-one c second q (stepsAlone c p (startAlone c p) n .state)
-    × Tells K s c first p (stepsAlone c p (startAlone c p) n .state))
+    → let r : ℕ = fixedPattern φ (c .letters) q in
+    (stepsAlone c r (startAlone c r) n .time ≡ timeHeld K (fixed φ c) second)
+    × Tells K fixed-one c second q (stepsAlone c r (startAlone c r) n .state)
+    × Tells K s c first r (stepsAlone c r (startAlone c r) n .state))
