@@ -7,7 +7,7 @@ ghost use Rattle.diagram.specs.Operation.{twoValued};
 ghost use Rattle.diagram.specs.Call.{tableOf};
 ghost use Rattle.table.specs.Holds.{columns};
 ghost use Rattle.calls.specs.Answered.{Passed};
-use functions::read::power;
+use functions::read::is_pattern;
 use functions::read::two_valued;
 
 pub fn apply_asked(k: u32, used: u32, a: u32, b: u32) -> bool
@@ -74,7 +74,7 @@ pub fn number_asked(k: u32, used: u32, e: u32, p: u32) -> bool
     if used <= e {
         return false;
     }
-    p < power(k)
+    is_pattern(k, p)
 }
 
 pub fn count_asked(letter: &[u32], low: &[u32], high: &[u32], k: u32, used: u32, e: u32) -> bool

@@ -2,9 +2,10 @@
 use mathlib.Core.Path.{_≡_, refl, sym, _∙_}
 use mathlib.Core.List.{List}
 use mathlib.Core.Bool.{Bool, true, false}
-use Prim.Native.Nat.{ℕ, _+_, _<_, _≤_, _^_}
+use Prim.Native.Nat.{ℕ, _+_, _<_, _≤_}
 use native.Mathlib.Omega.{arith}
 use lib.ListN.{length}
+use lib.Dec.{ltb}
 use borrow.Author.Tests.{lt-ltb, le-ltb}
 use Rattle.refusal.specs.declared.Refusal.{Refusal}
 use Rattle.refusal.specs.declared.Refusal.the-variants.{Buffer, Unsound, Question}
@@ -12,6 +13,7 @@ use Rattle.refusal.specs.declared.Reply.{Reply}
 use Rattle.refusal.specs.declared.Reply.the-variants.{Done, Refused}
 use Rattle.refusal.specs.Answer.{Answer, refused, answered}
 use Rattle.format.specs.Circuit.{Circuit}
+use Rattle.diagram.specs.Pattern.{patterns}
 use Rattle.diagram.specs.Call.{Columns, lengthsLegal, columnsSound, tableOf}
 use Rattle.rules.specs.State.{valueAt, changeAt}
 use Rattle.rules.specs.Run as defined
@@ -83,19 +85,19 @@ module _ (net l w h : List ℕ) (r : Run) (n p : ℕ) (laid : Laid (netCircuit n
             asked-refused call Question reply value change (rw (legal, columns-by, e, ← is, f, le-ltb n (2 + length (c .nodes)) (omega (arith, nodes-length net)))) a
 
         -- 9: the pattern
-        pub asked-pattern : {reply : Reply} {value change : ℕ} → n < at net nodesPlace + 2 → 2 ^ at net lettersPlace ≤ p → (reply ≡ Refused Question) × (value ≡ 0) × (change ≡ 0)
+        pub asked-pattern : {reply : Reply} {value change : ℕ} → n < at net nodesPlace + 2 → ltb p (patterns (at net lettersPlace)) ≡ false → (reply ≡ Refused Question) × (value ≡ 0) × (change ≡ 0)
             → AskedAs (askCall (answered (netCircuit net)) (columns l w h) (runOf (netCircuit net) r) n p) reply value change
         unfolding askCall
         asked-pattern {reply} {value} {change} g k a =
             asked-refused call Question reply value change
-            (rw (legal, columns-by, e, ← is, f, lt-ltb n (2 + length (c .nodes)) (omega (arith, nodes-length net)), le-ltb p (2 ^ c .letters) (rw (← letters-at net) at k))) a
+            (rw (legal, columns-by, e, ← is, f, lt-ltb n (2 + length (c .nodes)) (omega (arith, nodes-length net)), (rw (← letters-at net) at k))) a
 
         -- the answer
-        pub asked-done : {value change : ℕ} → n < at net nodesPlace + 2 → p < 2 ^ at net lettersPlace
+        pub asked-done : {value change : ℕ} → n < at net nodesPlace + 2 → ltb p (patterns (at net lettersPlace)) ≡ true
             → (value ≡ valueAt (stateOf (netCircuit net) (tableOf (columns l w h) (r .used)) (runOf (netCircuit net) r) p) n)
             × (change ≡ changeAt (stateOf (netCircuit net) (tableOf (columns l w h) (r .used)) (runOf (netCircuit net) r) p) n)
             → AskedAs (askCall (answered (netCircuit net)) (columns l w h) (runOf (netCircuit net) r) n p) Done value change
         unfolding askCall
         asked-done {value} {change} g k a =
-            rw (legal, columns-by, e, ← is, f, lt-ltb n (2 + length (c .nodes)) (omega (arith, nodes-length net)), lt-ltb p (2 ^ c .letters) (rw (← letters-at net) at k))
+            rw (legal, columns-by, e, ← is, f, lt-ltb n (2 + length (c .nodes)) (omega (arith, nodes-length net)), (rw (← letters-at net) at k))
             record { reply-is = refl; value-is = a .0; change-is = a .1 }

@@ -1,6 +1,6 @@
 // The run question.
 use cell::Cell;
-use functions::read::power;
+use functions::read::is_pattern;
 use record::Run;
 use record::run_sound;
 use record::wire_at;
@@ -68,7 +68,7 @@ fn ask_open(
     if nodes + 2 <= n {
         return unasked(Refusal::Question);
     }
-    if power(k) <= p {
+    if !is_pattern(k, p) {
         return unasked(Refusal::Question);
     }
     let wire = wire_at(net, letter, low, high, r, n, p);

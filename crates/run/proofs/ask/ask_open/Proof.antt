@@ -57,8 +57,8 @@ returns-3 c =
     let s = c .before .before .before .before .before .before .before .before .before .before .before .before .before .before .before .before in
     asked-node (s .args .net .now) (s .args .letter .now) (s .args .low .now) (s .args .high .now) (s .args .r) (s .args .n) (s .args .p) (s .pre .0) (s .pre .1) (c .before .before .before .before .before .before .before .sound .ensures) (not-false _ (c .before .before .before .before .if1 .left)) (c .before .before .before .run-sound .ensures) (not-false _ (c .before .before .if2 .left)) (omega (arith, c .before .if3 .taken)) (c .unasked3 .ensures)
 
-power-requires : tie.Need-power-requires
-power-requires c κs = search needs
+is-pattern-requires : tie.Need-is-pattern-requires
+is-pattern-requires c κs = search needs
 
 unasked-requires-4 : tie.Need-unasked-requires-4
 unasked-requires-4 c κs = search needs
@@ -69,7 +69,7 @@ same-length-4 c = search needs
 returns-4 : tie.Need-returns-4
 returns-4 c =
     let s = c .before .before .before .before .before .before .before .before .before .before .before .before .before .before .before .before .before .before in
-    asked-pattern (s .args .net .now) (s .args .letter .now) (s .args .low .now) (s .args .high .now) (s .args .r) (s .args .n) (s .args .p) (s .pre .0) (s .pre .1) (c .before .before .before .before .before .before .before .before .before .sound .ensures) (not-false _ (c .before .before .before .before .before .before .if1 .left)) (c .before .before .before .before .before .run-sound .ensures) (not-false _ (c .before .before .before .before .if2 .left)) (omega arith) (omega (arith, c .before .before .power .ensures, c .before .if4 .taken)) (c .unasked4 .ensures)
+    asked-pattern (s .args .net .now) (s .args .letter .now) (s .args .low .now) (s .args .high .now) (s .args .r) (s .args .n) (s .args .p) (s .pre .0) (s .pre .1) (c .before .before .before .before .before .before .before .before .before .sound .ensures) (not-false _ (c .before .before .before .before .before .before .if1 .left)) (c .before .before .before .before .before .run-sound .ensures) (not-false _ (c .before .before .before .before .if2 .left)) (omega arith) (sym (c .before .before .is-pattern .ensures) ∙ not-true _ (c .before .if4 .taken)) (c .unasked4 .ensures)
 
 wire-at-requires : tie.Need-wire-at-requires
 wire-at-requires c κs =
@@ -82,7 +82,7 @@ same-length-5 c = search needs
 returns-5 : tie.Need-returns-5
 returns-5 c =
     let s = c .before .before .before .before .before .before .before .before .before .before .before .before .before .before .before .before .before .before in
-    asked-done (s .args .net .now) (s .args .letter .now) (s .args .low .now) (s .args .high .now) (s .args .r) (s .args .n) (s .args .p) (s .pre .0) (s .pre .1) (c .before .before .before .before .before .before .before .before .before .sound .ensures) (not-false _ (c .before .before .before .before .before .before .if1 .left)) (c .before .before .before .before .before .run-sound .ensures) (not-false _ (c .before .before .before .before .if2 .left)) (omega arith) (omega (arith, c .before .before .power .ensures, c .before .if4 .left)) (c .wire-at .ensures)
+    asked-done (s .args .net .now) (s .args .letter .now) (s .args .low .now) (s .args .high .now) (s .args .r) (s .args .n) (s .args .p) (s .pre .0) (s .pre .1) (c .before .before .before .before .before .before .before .before .before .sound .ensures) (not-false _ (c .before .before .before .before .before .before .if1 .left)) (c .before .before .before .before .before .run-sound .ensures) (not-false _ (c .before .before .before .before .if2 .left)) (omega arith) (sym (c .before .before .is-pattern .ensures) ∙ not-false _ (c .before .if4 .left)) (c .wire-at .ensures)
 
 pub ask-open-spec : {M : Type 1} → statement M
 ask-open-spec =
@@ -102,7 +102,7 @@ ask-open-spec =
     unasked-requires-3
     same-length-3
     returns-3
-    power-requires
+    is-pattern-requires
     unasked-requires-4
     same-length-4
     returns-4
