@@ -329,6 +329,23 @@ static void check_choose(void)
           "the same function again is the same entry");
 }
 
+/* Letters on which a function does not depend double its count. */
+static void check_count(void)
+{
+    struct table t;
+    uint32_t letters, count;
+
+    make_table(&t);
+    for (letters = K; letters <= STS_MOST_LETTERS; letters++) {
+        check(sts_count(letters, COLUMNS(&t, LENT), t.used, STS_ENTRY_1, &count) == STS_OK &&
+                  count == (uint32_t)1 << letters,
+              "sts_count counts all patterns");
+        check(sts_count(letters, COLUMNS(&t, LENT), t.used, LETTER_1, &count) == STS_OK &&
+                  count == (uint32_t)1 << (letters - 1),
+              "sts_count counts half of the patterns");
+    }
+}
+
 static void check_smaller(void)
 {
     struct table t;
@@ -1144,6 +1161,7 @@ int main(void)
     check_longest_file();
     check_fresh();
     check_choose();
+    check_count();
     check_smaller();
     check_sum();
     check_fix();

@@ -4,7 +4,7 @@
 
 use comparison::functions::{fresh, Answer, Call, Columns, Condition, Entry, Operation};
 use comparison::functions::{Table, FIRST, MOST_LETTERS, NEVER};
-use comparison::generate::{functions as tables, unsound};
+use comparison::generate::{counted::Counted, functions as tables, unsound};
 use comparison::random::Random;
 use comparison::refusal::Refusal;
 
@@ -78,6 +78,29 @@ fn counts() {
     };
     let answer = wider.answer(&mut Columns::of(&TABLE, 9));
     assert_eq!(answer.map(|answer| answer.result), Ok(2048));
+}
+
+/// The rule of wish 4 gives the count, and where it is known without counting,
+/// that number.
+#[test]
+fn counts_by_shifts() {
+    for letters in 0..=MOST_LETTERS {
+        for function in Counted::all(letters) {
+            let (table, entry) = function.stored();
+            let count = table.count_by_shifts(entry);
+            assert_eq!(count, function.count(), "{function:?}");
+        }
+    }
+    let mut random = Random::new(16);
+    for round in 0..2_000 {
+        let letters = random.between(0, MOST_LETTERS);
+        let numbers = tables::function(&mut random, letters);
+        let bits: Vec<u32> = numbers.iter().map(|number| number % 2).collect();
+        let mut table = Table::fresh(letters);
+        let entry = table.store(&bits);
+        let count = table.count_by_shifts(entry);
+        assert_eq!(count, bits.iter().sum(), "round {round}");
+    }
 }
 
 /// Low part first, then high part, then the root, and only what is missing.

@@ -3,6 +3,7 @@
 
 use comparison::functions::{self, Answer, Call, Columns, Condition, Entry, Operation};
 use comparison::functions::{Table, LENGTHS, MOST_LETTERS, NEVER};
+use comparison::generate::counted::{Counted, Skipped};
 use comparison::generate::{calls, functions as tables, unsound};
 use comparison::random::Random;
 use comparison::refusal::Refusal;
@@ -436,6 +437,73 @@ fn each_length(
             break;
         }
     }
+}
+
+/// Counts with every number of letters, of functions that leave letters out at
+/// the top, in the middle and at the end: as they are counted pattern by pattern,
+/// by the rule of wish 4, and without counting.
+#[test]
+fn counts_of_skipped_letters() {
+    let mut seen = Seen::default();
+    let mut skipped = [0; 3];
+    for letters in 0..=MOST_LETTERS {
+        for counted in Counted::all(letters) {
+            let (table, function) = counted.stored();
+            let call = Call {
+                letters,
+                used: table.entries().len() as u32,
+                operation: Operation::Count { function },
+            };
+            let mut columns = Columns::of(table.entries(), table.entries().len());
+            let answer = seen.compare(&call, &mut columns, "counted");
+            let count = answer.map(|answer| answer.result);
+            assert_eq!(count, Ok(counted.count()), "{counted:?}");
+            assert_eq!(count, Ok(table.count_by_shifts(function)), "{counted:?}");
+            let Skipped { top, middle, end } = counted.skipped();
+            for (place, times) in [top, middle, end].into_iter().zip(&mut skipped) {
+                *times += u32::from(place);
+            }
+        }
+    }
+    seen.print("counts");
+    println!("counts: skipped at the top, in the middle, at the end {skipped:?}");
+    let by_letters = (0..=MOST_LETTERS).map(|letters| 3 << letters);
+    assert!(by_letters.eq(seen.letters), "{:?}", seen.letters);
+    assert!(
+        skipped.iter().all(|&times| times >= 10_000),
+        "skipped {skipped:?}"
+    );
+}
+
+/// Each letter is read at patterns of every number of letters, and so is the one
+/// behind the last, which is 0 at all of them; what is no pattern is refused.
+#[test]
+fn letters_of_patterns() {
+    let mut seen = Seen::default();
+    for letters in 0..=MOST_LETTERS {
+        let patterns: u32 = 1 << letters;
+        let bits = (0..letters).map(|letter| 1 << letter);
+        let inside = bits.flat_map(|bit| [bit, patterns - 1 - bit]);
+        let outside = [patterns, patterns + 1, 2 * patterns, 1 << 31, u32::MAX];
+        let asked: Vec<u32> = inside.chain([0, patterns - 1]).chain(outside).collect();
+        for letter in 0..=letters {
+            let numbers: Vec<u32> = (0..patterns).map(|pattern| pattern >> letter & 1).collect();
+            let mut table = Table::fresh(letters);
+            let function = table.store(&numbers);
+            for &pattern in &asked {
+                let call = Call {
+                    letters,
+                    used: table.entries().len() as u32,
+                    operation: Operation::Number { function, pattern },
+                };
+                let mut columns = Columns::of(table.entries(), table.entries().len());
+                let answered = seen.compare(&call, &mut columns, "letter");
+                assert_eq!(answered.is_ok(), pattern < patterns, "{call:?}");
+            }
+        }
+    }
+    seen.print("letters");
+    seen.all.expect(350, &[0, 9]);
 }
 
 /// Columns of any content and lengths become a fresh table or stay as they are.

@@ -2,6 +2,7 @@
 //! for one refusal, function tables of all sizes, damaged ones, and calls on them.
 
 pub mod calls;
+pub mod counted;
 pub mod damage;
 pub mod faults;
 pub mod functions;
