@@ -344,8 +344,9 @@ uint32_t sts_number(uint32_t letters,
                     uint32_t *number);
 
 /*
- * Counts the patterns, of all 2 to the power K, at which a function is 1. The
- * table is only read.
+ * Counts the patterns, of all 2 to the power K, at which a function is 1. A
+ * letter on which the function does not depend counts too: it doubles the count.
+ * The table is only read.
  *
  *   letters            K
  *   letter, low, high  the table's columns
