@@ -10,7 +10,7 @@ use records::Chain;
 use records::blanks;
 use records::bytes;
 use records::chains;
-use records::fields;
+use records::kinds;
 use refusal::Refusal;
 use refusal::Reply;
 use units::Femtofarads;
@@ -123,9 +123,9 @@ fn cell_at(file: &[u8], header: Header, ns: [u32; 64], ts: [u32; 64], es: [u32; 
 {
     Cell {
         header,
-        nodes: fields::nodes_at(file, ns, header.nodes),
-        transistors: fields::transistors_at(file, ts, header.transistors),
-        schedule: fields::entries_at(file, es, header.entries),
+        nodes: kinds::nodes_at(file, ns, header.nodes),
+        transistors: kinds::transistors_at(file, ts, header.transistors),
+        schedule: kinds::entries_at(file, es, header.entries),
     }
 }
 

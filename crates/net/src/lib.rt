@@ -2,10 +2,10 @@
 // Promise: the column of a legal cell lays out exactly that cell (`Laid`): its fields, each node's arms by rising number, its groups.
 // Internal to our crates: no call from outside sees it.
 mod arms;
-mod fields;
 pub mod inner;
 pub mod labels;
 mod links;
+mod places;
 
 use cell::Cell;
 ghost use mathlib.Core.Path.{_≡_};
@@ -59,7 +59,7 @@ pub fn lay(cell: Cell) -> [u32; 2314]
     ensures { λ r. ⌜ Laid (circuitOf cell) r ⌝ }
 {
     let mut net = [0u32; 2314];
-    fields::put_fields(&mut net, cell);
+    places::put_fields(&mut net, cell);
     arms::put_arms(&mut net);
     links::put_groups(&mut net);
     net

@@ -4,7 +4,7 @@
 pub mod blanks;
 pub mod bytes;
 pub mod chains;
-pub mod fields;
+pub mod kinds;
 
 // The record numbers of a chain in the first places, zero in the others; all zero where the chain is not found.
 pub struct Chain {

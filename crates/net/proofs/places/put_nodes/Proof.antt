@@ -9,8 +9,8 @@ use Rattle.net.specs.Written.{Put}
 use Rattle.net.proofs.Only.{put-none}
 use Rattle.net.proofs.Rows.{node-more}
 use borrow.Author.Needs.{needs}
-use Rattle.net.proofs.fields.put_nodes.Statement.{statement}
-use Rattle.net.proofs.fields.put_nodes.Tie as tie
+use Rattle.net.proofs.places.put_nodes.Statement.{statement}
+use Rattle.net.proofs.places.put_nodes.Tie as tie
 
 abbrev Inv-loop : tie.InvT-loop
 Inv-loop net₀ count nodes n i₀ net i = (i ≤ n) × (length net ≡ netLength) × Put 8 80 netNode noNode nodes i net₀ net

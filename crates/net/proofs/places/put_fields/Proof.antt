@@ -2,8 +2,8 @@
 use mathlib.Core.Path.{_∙_}
 use Rattle.net.proofs.Laying.{legal-fits, fields-laid}
 use borrow.Author.Needs.{needs}
-use Rattle.net.proofs.fields.put_fields.Statement.{statement}
-use Rattle.net.proofs.fields.put_fields.Tie as tie
+use Rattle.net.proofs.places.put_fields.Statement.{statement}
+use Rattle.net.proofs.places.put_fields.Tie as tie
 
 put-header-requires : tie.Need-put-header-requires
 put-header-requires c κs =

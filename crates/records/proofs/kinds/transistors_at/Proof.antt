@@ -9,8 +9,8 @@ use Rattle.format.specs.File.{transistorAt}
 use Rattle.format.specs.Circuit.{noTransistor}
 use Rattle.lists.specs.Padded.{padded}
 use Rattle.records.proofs.Filled.{filled-none, filled-more, filled-done}
-use Rattle.records.proofs.fields.transistors_at.Statement.{statement}
-use Rattle.records.proofs.fields.transistors_at.Tie as tie
+use Rattle.records.proofs.kinds.transistors_at.Statement.{statement}
+use Rattle.records.proofs.kinds.transistors_at.Tie as tie
 
 abbrev Inv-loop : tie.InvT-loop
 Inv-loop file n records most transistors₀ k₀ transistors k =

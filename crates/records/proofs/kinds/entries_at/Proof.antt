@@ -9,8 +9,8 @@ use Rattle.format.specs.File.{entryAt}
 use Rattle.format.specs.Circuit.{noEntry}
 use Rattle.lists.specs.Padded.{padded}
 use Rattle.records.proofs.Filled.{filled-none, filled-more, filled-done}
-use Rattle.records.proofs.fields.entries_at.Statement.{statement}
-use Rattle.records.proofs.fields.entries_at.Tie as tie
+use Rattle.records.proofs.kinds.entries_at.Statement.{statement}
+use Rattle.records.proofs.kinds.entries_at.Tie as tie
 
 abbrev Inv-loop : tie.InvT-loop
 Inv-loop file n records most entries₀ k₀ entries k =

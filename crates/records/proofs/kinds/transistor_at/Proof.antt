@@ -1,8 +1,8 @@
--- `entry_at` meets its contract.
+-- `transistor_at` meets its contract.
 use borrow.Author.Needs.{needs}
-use Rattle.format.specs.File.{entryAt}
-use Rattle.records.proofs.fields.entry_at.Statement.{statement}
-use Rattle.records.proofs.fields.entry_at.Tie as tie
+use Rattle.format.specs.File.{transistorAt}
+use Rattle.records.proofs.kinds.transistor_at.Statement.{statement}
+use Rattle.records.proofs.kinds.transistor_at.Tie as tie
 
 record-at-requires : tie.Need-record-at-requires
 record-at-requires c κs = search needs
@@ -25,15 +25,24 @@ add-t8 c = search needs
 shared-slice-read-t10 : tie.Need-shared-slice-read-t10
 shared-slice-read-t10 c = search needs
 
-cast-t11 : tie.Need-cast-t11
-cast-t11 c = search needs
+add-t11 : tie.Need-add-t11
+add-t11 c = search needs
+
+shared-slice-read-t13 : tie.Need-shared-slice-read-t13
+shared-slice-read-t13 c = search needs
+
+add-t14 : tie.Need-add-t14
+add-t14 c = search needs
+
+shared-slice-read-t16 : tie.Need-shared-slice-read-t16
+shared-slice-read-t16 c = search needs
 
 returns : tie.Need-returns
-unfolding entryAt
+unfolding transistorAt
 returns c = cc
 
-pub entry-at-spec : {M : Type 1} → statement M
-entry-at-spec =
+pub transistor-at-spec : {M : Type 1} → statement M
+transistor-at-spec =
     tie.close
     (tie.spec
     record-at-requires
@@ -43,5 +52,8 @@ entry-at-spec =
     shared-slice-read-t7
     add-t8
     shared-slice-read-t10
-    cast-t11
+    add-t11
+    shared-slice-read-t13
+    add-t14
+    shared-slice-read-t16
     returns)

@@ -1,8 +1,8 @@
 -- `node_at` meets its contract.
 use borrow.Author.Needs.{needs}
 use Rattle.format.specs.File.{nodeAt}
-use Rattle.records.proofs.fields.node_at.Statement.{statement}
-use Rattle.records.proofs.fields.node_at.Tie as tie
+use Rattle.records.proofs.kinds.node_at.Statement.{statement}
+use Rattle.records.proofs.kinds.node_at.Tie as tie
 
 record-at-requires : tie.Need-record-at-requires
 record-at-requires c κs = search needs

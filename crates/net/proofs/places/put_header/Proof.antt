@@ -2,8 +2,8 @@
 use native.Mathlib.Omega.{arith}
 use lib.ListN.{length-set}
 use borrow.Author.Needs.{needs}
-use Rattle.net.proofs.fields.put_header.Statement.{statement}
-use Rattle.net.proofs.fields.put_header.Tie as tie
+use Rattle.net.proofs.places.put_header.Statement.{statement}
+use Rattle.net.proofs.places.put_header.Tie as tie
 
 slice-write-net : tie.Need-slice-write-net
 slice-write-net c = search needs

@@ -9,8 +9,8 @@ use Rattle.net.specs.Written.{Put}
 use Rattle.net.proofs.Only.{put-none}
 use Rattle.net.proofs.Rows.{entry-more}
 use borrow.Author.Needs.{needs}
-use Rattle.net.proofs.fields.put_entries.Statement.{statement}
-use Rattle.net.proofs.fields.put_entries.Tie as tie
+use Rattle.net.proofs.places.put_entries.Statement.{statement}
+use Rattle.net.proofs.places.put_entries.Tie as tie
 
 abbrev Inv-loop : tie.InvT-loop
 Inv-loop net₀ count schedule n i₀ net i = (i ≤ n) × (length net ≡ netLength) × Put 400 592 netEntry noEntry schedule i net₀ net

@@ -9,8 +9,8 @@ use Rattle.format.specs.File.{nodeAt}
 use Rattle.format.specs.Circuit.{noNode}
 use Rattle.lists.specs.Padded.{padded}
 use Rattle.records.proofs.Filled.{filled-none, filled-more, filled-done}
-use Rattle.records.proofs.fields.nodes_at.Statement.{statement}
-use Rattle.records.proofs.fields.nodes_at.Tie as tie
+use Rattle.records.proofs.kinds.nodes_at.Statement.{statement}
+use Rattle.records.proofs.kinds.nodes_at.Tie as tie
 
 abbrev Inv-loop : tie.InvT-loop
 Inv-loop file n records most nodes₀ k₀ nodes k =

@@ -2,8 +2,8 @@
 use native.Mathlib.Omega.{arith}
 use lib.ListN.{length-set}
 use borrow.Author.Needs.{needs}
-use Rattle.net.proofs.fields.put_node.Statement.{statement}
-use Rattle.net.proofs.fields.put_node.Tie as tie
+use Rattle.net.proofs.places.put_node.Statement.{statement}
+use Rattle.net.proofs.places.put_node.Tie as tie
 
 cast-net : tie.Need-cast-net
 cast-net c = search needs

@@ -9,8 +9,8 @@ use Rattle.net.specs.Written.{Put}
 use Rattle.net.proofs.Only.{put-none}
 use Rattle.net.proofs.Rows.{transistor-more}
 use borrow.Author.Needs.{needs}
-use Rattle.net.proofs.fields.put_transistors.Statement.{statement}
-use Rattle.net.proofs.fields.put_transistors.Tie as tie
+use Rattle.net.proofs.places.put_transistors.Statement.{statement}
+use Rattle.net.proofs.places.put_transistors.Tie as tie
 
 abbrev Inv-loop : tie.InvT-loop
 Inv-loop net₀ count transistors n i₀ net i = (i ≤ n) × (length net ≡ netLength) × Put 80 400 netTransistor noTransistor transistors i net₀ net

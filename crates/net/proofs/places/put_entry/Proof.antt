@@ -1,9 +1,9 @@
--- `fields::put_transistor` meets its contract. Assumes nothing.
+-- `fields::put_entry` meets its contract. Assumes nothing.
 use native.Mathlib.Omega.{arith}
 use lib.ListN.{length-set}
 use borrow.Author.Needs.{needs}
-use Rattle.net.proofs.fields.put_transistor.Statement.{statement}
-use Rattle.net.proofs.fields.put_transistor.Tie as tie
+use Rattle.net.proofs.places.put_entry.Statement.{statement}
+use Rattle.net.proofs.places.put_entry.Tie as tie
 
 cast-net : tie.Need-cast-net
 cast-net c = search needs
@@ -41,35 +41,14 @@ mul-net-3 c = search needs
 slice-write-net-3 : tie.Need-slice-write-net-3
 slice-write-net-3 c = simp length-set (omega arith)
 
-cast-net-4 : tie.Need-cast-net-4
-cast-net-4 c = search needs
-
-add-net-4 : tie.Need-add-net-4
-add-net-4 c = search needs
-
-mul-net-4 : tie.Need-mul-net-4
-mul-net-4 c = search needs
-
-slice-write-net-4 : tie.Need-slice-write-net-4
-slice-write-net-4 c = simp length-set (omega arith)
-
-add-net-5 : tie.Need-add-net-5
-add-net-5 c = search needs
-
-mul-net-5 : tie.Need-mul-net-5
-mul-net-5 c = search needs
-
-slice-write-net-5 : tie.Need-slice-write-net-5
-slice-write-net-5 c = simp length-set (omega arith)
-
 same-length : tie.Need-same-length
 same-length c = simp length-set
 
 returns : tie.Need-returns
 returns c = search needs
 
-pub put-transistor-spec : {M : Type 1} → statement M
-put-transistor-spec =
+pub put-entry-spec : {M : Type 1} → statement M
+put-entry-spec =
     tie.close
     (tie.spec
     cast-net
@@ -84,12 +63,5 @@ put-transistor-spec =
     add-net-3
     mul-net-3
     slice-write-net-3
-    cast-net-4
-    add-net-4
-    mul-net-4
-    slice-write-net-4
-    add-net-5
-    mul-net-5
-    slice-write-net-5
     same-length
     returns)
