@@ -1,6 +1,6 @@
-// The operations on functions in a lent table: smaller, sum, choose, fix, number, count; and the calls on lent columns.
+// The operations on functions in a lent table: smaller, sum, choose, fix, number, count.
 // Promise: an operation adds exactly the missing entries of its result, low part, high part, root, and gives the entry that the
-// definitions of `diagram` give; a call answers as document 01 orders its refusals, and a refused one leaves the columns as they were.
+// definitions of `diagram` give; number and count only read, and give theirs. Refusals are the next layer's, `calls`.
 pub mod apply;
 pub mod choose;
 pub mod fix;
