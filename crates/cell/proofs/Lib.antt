@@ -3,3 +3,4 @@ pub mod Loops
 pub mod Kept
 pub mod Check
 pub mod Read
+pub mod Answers

@@ -2,6 +2,7 @@
 use Prim.Native.Nat.{ℕ, zero, suc}
 use mathlib.Core.List.{List, [], _∷_}
 use lib.ListN.{replicate}
+use Rattle.refusal.specs.declared.Reply.{Reply}
 use Rattle.refusal.specs.declared.Reply.the-variants.{Done, Refused}
 use Rattle.refusal.specs.Answer.{Answer, refused, answered}
 use Rattle.units.specs.Units.{picoseconds}
@@ -48,3 +49,8 @@ noCell = record {
 unfoldable pub reading : Answer Circuit → Reading
 reading (refused why) = record { reply = Refused why; cell = noCell }
 reading (answered c) = record { reply = Done; cell = cellOf c }
+
+-- the definitions' answer, of the reply of reading or checking a cell and the cell
+abbrev pub cellBy : Reply → Cell → Answer Circuit
+cellBy Done cell = answered (circuitOf cell)
+cellBy (Refused why) cell = refused why

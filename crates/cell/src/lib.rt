@@ -3,6 +3,7 @@
 // Nothing is required of a caller. A refused file gives a cell of zeros.
 mod legal;
 mod reader;
+pub mod size;
 
 use format::Entry;
 use format::Header;
@@ -42,7 +43,7 @@ impl Cell {
 
     pub const MOST_HORIZON: u64 = 1000000;
 
-    pub const MOST_BYTES: usize = reader::RECORD_SIZE
+    pub const MOST_BYTES: usize = size::RECORD_SIZE
         * (1 + Cell::MOST_NODES + Cell::MOST_TRANSISTORS + Cell::MOST_ENTRIES) as usize;
 
     // A cell handed over as a value: 2, then 4, then 5.
@@ -67,14 +68,14 @@ impl Cell {
     pub fn read(file: &[u8]) -> Reading
         ensures { λ r. ⌜ r ≡ reading (readCell (now (file .entry))) ⌝ }
     {
-        if file.len() < reader::RECORD_SIZE {
+        if file.len() < size::RECORD_SIZE {
             return reader::refused(Refusal::Length);
         }
         let header = bytes::file_header(file);
         if !reader::header_legal(file, header) {
             return reader::refused(Refusal::Header);
         }
-        if file.len() != reader::stated_length(header) {
+        if file.len() != size::stated_length(header) {
             return reader::refused(Refusal::Length);
         }
         reader::read_chains(file, header)

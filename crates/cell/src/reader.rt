@@ -2,6 +2,7 @@
 use crate::Cell;
 use crate::Reading;
 use crate::legal;
+use crate::size::record_count;
 use format::Entry;
 use format::Header;
 use format::Node;
@@ -11,6 +12,9 @@ use records::blanks;
 use records::bytes;
 use records::chains;
 use records::kinds;
+use records::kinds::ENTRY;
+use records::kinds::NODE;
+use records::kinds::TRANSISTOR;
 use refusal::Refusal;
 use refusal::Reply;
 use units::Femtofarads;
@@ -20,13 +24,10 @@ ghost use mathlib.Core.Path.{_≡_};
 ghost use Prim.Native.Nat.{_<_, _≤_};
 ghost use lib.ListN.{length};
 ghost use Rattle.refusal.specs.Answer as answer;
-ghost use Rattle.format.specs.File.{halfAt, fileHeader, headerLegal, recordCount, statedLength, chain, readChains};
+ghost use Rattle.format.specs.File.{halfAt, fileHeader, headerLegal, recordCount, chain, readChains};
 ghost use Rattle.records.specs.Chain.{chainFound};
 ghost use Rattle.cell.specs.Value.{noCell, cellOf, reading};
-ghost use Rattle.cell.specs.Counted.{Counted};
 ghost use Rattle.cell.specs.Reader.{Full, Chained, blanksAt, circuitAt, fieldsAt};
-
-pub const RECORD_SIZE: usize = 16;
 
 const UNNAMED: usize = 14;
 
@@ -35,12 +36,6 @@ const FIRST_NODE: usize = 8;
 const FIRST_TRANSISTOR: usize = 10;
 
 const FIRST_ENTRY: usize = 12;
-
-const NODE: u8 = 1;
-
-const TRANSISTOR: u8 = 2;
-
-const ENTRY: u8 = 3;
 
 fn no_cell() -> Cell
     ensures { λ r. ⌜ r ≡ noCell ⌝ }
@@ -91,20 +86,6 @@ pub fn header_legal(file: &[u8], header: Header) -> bool
     ensures { λ r. ⌜ r ≡ headerLegal (now (file .entry)) ⌝ }
 {
     legal::limits_kept(header) & bytes::zero_bytes(file, 2, UNNAMED)
-}
-
-fn record_count(header: Header) -> u32
-    requires { ⌜ Counted header ⌝ }
-    ensures { λ r. ⌜ r ≡ recordCount header ⌝ }
-{
-    header.nodes + header.transistors + header.entries
-}
-
-pub fn stated_length(header: Header) -> usize
-    requires { ⌜ Counted header ⌝ }
-    ensures { λ r. ⌜ r ≡ statedLength header ⌝ }
-{
-    RECORD_SIZE * (1 + record_count(header) as usize)
 }
 
 // No record of the three chains has a byte without a name that is not zero.

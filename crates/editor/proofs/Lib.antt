@@ -1,5 +1,6 @@
 pub mod Five
 pub mod ReadCell
+pub mod SaveCell
 pub mod Handed
 pub mod Column
 pub mod Course

@@ -1,23 +1,16 @@
 -- What the reader's answer says of the call.
-use mathlib.Core.Path.{_≡_, refl, sym, _∙_, ap}
-use mathlib.Core.Bool.{true, false}
+use mathlib.Core.Path.{_≡_, refl, ap}
 use mathlib.Core.List.{List, [], _∷_}
-use Prim.Native.Nat.{ℕ, _^_, _<_}
-use native.Mathlib.Omega.{arith}
+use Prim.Native.Nat.{ℕ}
 use lib.ListN.{length}
 use borrow.Author.Tests.{eq-eqb, ne-eqb}
 use Rattle.refusal.specs.declared.Refusal.{Refusal}
 use Rattle.refusal.specs.declared.Refusal.the-variants.{Buffer}
-use Rattle.refusal.specs.declared.Reply.the-variants.{Done, Refused}
 use Rattle.refusal.specs.Number.{refusalNumber}
-use Rattle.refusal.specs.Answer.{Answer, refused, answered, check, answerNumber}
+use Rattle.refusal.specs.Answer.{refused, answered, answerNumber}
 use Rattle.format.specs.declared.Header.{Header}
 use Rattle.format.specs.Circuit.{Circuit, headerOf}
 use Rattle.format.specs.File.{readCell}
-use Rattle.format.proofs.Legal.{legal-read}
-use Rattle.cell.specs.declared.Cell.{Cell}
-use Rattle.cell.specs.declared.Reading.{Reading}
-use Rattle.cell.specs.Value.{reading, cellOf}
 use Rattle.editor.specs.Read.{readCall, headerAfter, headerNumbers}
 
 -- another length than five is refused 8
@@ -29,18 +22,6 @@ wrong-length file header h = rw (ne-eqb (length header) 5 h)
 pub right-length : (file header : List ℕ) → length header ≡ 5 → readCall file header ≡ readCell file
 unfolding readCall
 right-length file header h = rw (eq-eqb (length header) 5 h)
-
--- a refused reading
-pub was-refused : (a : Answer Circuit) (r : Reading) (why : Refusal) → r ≡ reading a → r .reply ≡ Refused why → a ≡ refused why
-unfolding reading
-was-refused (refused w) r why e p = cc
-was-refused (answered c) r why e p = cc
-
--- a cell that was read
-pub was-read : (a : Answer Circuit) (r : Reading) → r ≡ reading a → r .reply ≡ Done → (c : Circuit) × (a ≡ answered c) × (r .cell .header ≡ headerOf c)
-unfolding reading cellOf
-was-read (refused w) r e p = absurd (let z : _≡_ {A = ℕ} 0 1 = cc in omega arith)
-was-read (answered c) r e p = (c, refl, ap (λ (x : Reading). x .cell .header) e)
 
 -- a refused call gives its number, and the header keeps its content
 pub call-refused : (file header : List ℕ) (why : Refusal) {n : ℕ} → readCall file header ≡ refused why → n ≡ refusalNumber why

@@ -2,3 +2,4 @@ pub mod Read
 pub mod Functions
 pub mod Runs
 pub mod Replied
+pub mod Saves

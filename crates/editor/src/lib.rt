@@ -3,6 +3,7 @@
 // Thin: the work is done by the crates below. include/sts.h documents the calls for C.
 pub mod inplace;
 pub mod runs;
+pub mod saves;
 pub mod tables;
 
 ghost use mathlib.Core.Path.{_≡_};

@@ -31,7 +31,7 @@ fn give_stored(s: Stored, used: &mut u32, entry: &mut u32) -> u32
 }
 
 // Hands an answer's number to the caller; a refusal leaves it as it was.
-fn give_number(t: Told, number: &mut u32) -> u32
+pub fn give_number(t: Told, number: &mut u32) -> u32
     ensures { λ r. ⌜ (r ≡ replyNumber (t .reply)) × (now (number .exit) ≡ afterReply (now (number .entry)) (t .number) (t .reply)) ⌝ }
 {
     let reply = t.reply;

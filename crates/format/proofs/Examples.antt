@@ -1,17 +1,18 @@
--- The definitions at work: document 01's inverter, read and damaged, its limits, and its letters fixed.
--- What is expected comes from document 01.
+-- The definitions at work: document 01's inverter, read and damaged, its limits, its letters fixed, and saved.
+-- What is expected comes from documents 01 and 02.
 use mathlib.Core.Path.{_≡_, refl}
 use mathlib.Core.List.{List, [], _∷_, _++_}
 use mathlib.Core.Bool.{Bool, true, false, cond}
 use Prim.Native.Nat.{ℕ}
-use lib.ListN.{set, take}
+use lib.ListN.{set, take, drop, replicate}
 use lib.Dec.{eqb}
 use Rattle.units.specs.Units.{ohms, femtofarads, picoseconds}
-use Rattle.refusal.specs.Answer.{answered, answerNumber}
+use Rattle.refusal.specs.Answer.{Answer, answered, answerNumber}
 use Rattle.format.specs.Circuit.{Circuit, every}
 use Rattle.format.specs.Legal.{limitsKept, nodeLegal, transistorLegal, entryLegal, fieldsLegal, risingFrom, rising, checkCircuit}
 use Rattle.format.specs.File.{zeroBytes, fileHeader, headerLegal, chain, nodeAt, transistorAt, entryAt}
 use Rattle.format.specs.File.{nodeBlank, transistorBlank, entryBlank, fileCircuit, readFields, readChains, readCell}
+use Rattle.format.specs.Saved.{nodeBytes, transistorBytes, entryBytes, chainBytes, headerBytes, savedFile, savedIn, saveFile, outAfter, lengthAfter}
 use Rattle.format.specs.Fixing.{Setting, free, low, high, Fixing, fixedSource, fixed, fixedBytes, fixedFile, withoutLetters}
 
 -- the header, two nodes, two transistors, one schedule entry
@@ -178,3 +179,38 @@ file-fixed = (refl, refl)
 letters-named : (withoutLetters (inverterCell 0 1 1) ≡ true) × (withoutLetters (inverterCell 0 1 4) ≡ false) × (withoutLetters (inverterCell 2 1 0) ≡ false)
 unfolding withoutLetters every
 letters-named = (refl, refl, refl)
+
+-- a file saved in a room of this length; to unfold it is to unfold all that the answer is made of
+saved : ℕ → List ℕ → Answer (List ℕ)
+unfolding number savedIn savedFile headerBytes chainBytes nodeBytes transistorBytes entryBytes
+saved room file = saveFile room file
+
+-- the inverter's cell is saved as document 01's bytes
+inverter-saved : savedFile (inverterCell 2 3 4) ≡ inverter
+unfolding saved
+inverter-saved = refl
+
+-- the node chain the other way round, with the entry at the input: the records come in chain order, and the chains start at 1, 3 and 5 again
+turned-saved : saved 96 (set turned 84 3) ≡ answered (set (set (set (set (set (set (set inverter 20 0) 21 3) 22 50) 36 1) 37 2) 38 0) 84 3)
+unfolding saved
+turned-saved = refl
+
+-- without a schedule bytes 12 and 13 are 0
+no-schedule-saved : (saved 80 noEntries ≡ answered noEntries) × (take 2 (drop 12 noEntries) ≡ 0 ∷ 0 ∷ [])
+unfolding saved
+no-schedule-saved = (refl, refl)
+
+-- numbers of more than one byte stay: a horizon of 0x0f03e8, a resistance of 0x0f07d0, a time of 0x0003c8
+numbers-saved : saved 96 (set (set (set inverter 6 15) 58 15) 89 3) ≡ answered (set (set (set inverter 6 15) 58 15) 89 3)
+unfolding saved
+numbers-saved = refl
+
+-- a room of 95 bytes is refused 8, and only where nothing else is wrong
+room-refused : (answerNumber (saved 95 inverter) ≡ 8) × (answerNumber (saved 95 (set inverter 0 25)) ≡ 2) × (answerNumber (saved 0 turned) ≡ 4)
+unfolding saved
+room-refused = (refl, refl, refl)
+
+-- bytes past the file keep their content, and a refusal leaves all bytes and the length
+past-kept : (outAfter (replicate 98 7) (saved 98 inverter) ≡ inverter ++ (7 ∷ 7 ∷ [])) × (outAfter (7 ∷ []) (saved 1 inverter) ≡ 7 ∷ []) × (lengthAfter 7 (saved 98 inverter) ≡ 96) × (lengthAfter 7 (saved 1 inverter) ≡ 7)
+unfolding saved
+past-kept = (refl, refl, refl, refl)

@@ -6,3 +6,6 @@ pub mod Read
 pub mod Legal
 pub mod Fixing
 pub mod FixedFile
+pub mod SavedChain
+pub mod SavedRecord
+pub mod Saved

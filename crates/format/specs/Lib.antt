@@ -3,3 +3,4 @@ pub mod Source
 pub mod Legal
 pub mod File
 pub mod Fixing
+pub mod Saved

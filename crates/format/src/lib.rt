@@ -1,5 +1,5 @@
-// The cell file and the cell as a value: definitions and their laws (document 01, "The cell file"); no functions.
-// specs/ has what a reader must believe: Source, Circuit, Legal, File (the reader's answer for every list of bytes) and Fixing.
+// The cell file and the cell as a value: definitions and their laws (document 01, "The cell file"; document 02, wish 1); no functions.
+// specs/ has what a reader must believe: Source, Circuit, Legal, File (the reader's answer for every list of bytes), Fixing, Saved (a cell as a file).
 // proofs/ has the laws that later layers cite.
 use units::Femtofarads;
 use units::Ohms;

@@ -1,6 +1,8 @@
 // Bytes that have no name are zero.
 use crate::bytes::record_at;
 use crate::bytes::zero_bytes;
+use crate::kinds::NODE;
+use crate::kinds::TRANSISTOR;
 ghost use mathlib.Core.Path.{_≡_};
 ghost use Prim.Native.Nat.{_+_, _*_, _≤_};
 ghost use lib.ListN.{length, take};
@@ -35,15 +37,15 @@ pub fn entry_blank(file: &[u8], r: u32) -> bool
     zero_bytes(file, 2, i + 6) && zero_bytes(file, 4, i + 12)
 }
 
-// The rule of the kind: 1 node, 2 transistor, else schedule entry.
+// The rule of the kind: a node's, a transistor's, else a schedule entry's.
 pub fn blank_at(file: &[u8], kind: u8, r: u32) -> bool
     requires { ⌜ 16 * r + 16 ≤ length (now file) ⌝ }
     ensures { λ b. ⌜ b ≡ blankAt (now (file .entry)) kind r ⌝ }
 {
-    if kind == 1 {
+    if kind == NODE {
         return node_blank(file, r);
     }
-    if kind == 2 {
+    if kind == TRANSISTOR {
         return transistor_blank(file, r);
     }
     entry_blank(file, r)

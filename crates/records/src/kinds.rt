@@ -1,4 +1,4 @@
-// The fields of each kind of record.
+// The kinds of records, and the fields of each.
 use crate::bytes::half_at;
 use crate::bytes::record_at;
 use crate::bytes::word_at;
@@ -16,6 +16,12 @@ ghost use Rattle.format.specs.Circuit.{noNode, noTransistor, noEntry};
 ghost use Rattle.format.specs.File.{nodeAt, transistorAt, entryAt};
 ghost use Rattle.lists.specs.Padded.{padded};
 ghost use Rattle.records.specs.Chain.{Inside};
+
+pub const NODE: u8 = 1;
+
+pub const TRANSISTOR: u8 = 2;
+
+pub const ENTRY: u8 = 3;
 
 pub fn node_at(file: &[u8], r: u32) -> Node
     requires { ⌜ 16 * r + 16 ≤ length (now file) ⌝ }

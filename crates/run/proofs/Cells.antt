@@ -1,30 +1,26 @@
 -- No cell is refused 8, and what the reply of reading or checking says of the cell.
-use mathlib.Core.Path.{_≡_, refl, sym, ap}
+use mathlib.Core.Path.{_≡_, refl}
 use mathlib.Core.List.{List, map}
 use mathlib.Core.Bool.{Bool, true, false, _&&_}
 use mathlib.Core.Option.{Option, some, none}
 use Prim.Native.Nat.{ℕ}
-use native.Mathlib.Omega.{arith}
 use lib.ListN.{length}
 use lib.Dec.{leb, eqb}
 use Rattle.refusal.specs.declared.Refusal.{Refusal}
 use Rattle.refusal.specs.declared.Refusal.the-variants.{Length, Header, Record, Order, Buffer}
 use Rattle.refusal.specs.declared.Reply.{Reply}
-use Rattle.refusal.specs.declared.Reply.the-variants.{Done, Refused}
-use Rattle.refusal.specs.Number.{refusalNumber}
+use Rattle.refusal.specs.Number.{refusalNumber, replyNumber}
 use Rattle.refusal.specs.Answer.{Answer, refused, answered, check, answerNumber, replyOf}
 use Rattle.refusal.proofs.Answer.{reply-number}
 use Rattle.format.specs.declared.Header as header
 use Rattle.format.specs.Circuit.{Circuit, headerOf, every}
 use Rattle.format.specs.Legal.{limitsKept, fieldsLegal, rising, checkCircuit}
 use Rattle.format.specs.File.{recordSize, fileHeader, firstNode, firstTransistor, firstEntry, headerLegal, recordCount, statedLength, nodeKind, transistorKind, entryKind, chain, entryAt, nodeBlank, transistorBlank, entryBlank, fileCircuit, chained, readFields, readChains, readCell}
-use Rattle.format.proofs.Check.{check-same}
-use Rattle.format.proofs.Read.{read-checked}
 use Rattle.cell.specs.declared.Cell.{Cell}
 use Rattle.cell.specs.declared.Reading.{Reading}
 use Rattle.cell.specs.Value.{circuitOf, reading}
-use Rattle.cell.proofs.Read.{circuit-of-cell}
-use Rattle.run.specs.Replied.{cellBy, Replied}
+use Rattle.cell.proofs.Answers.{reading-legal, check-legal}
+use Rattle.run.specs.Replied.{Replied}
 
 -- an answer is not the refusal 8
 pub record Other {A : Type 0} (a : Answer A) : Type 0 where
@@ -72,42 +68,16 @@ unfolding checkCircuit
 circuit-other c =
     check-other (limitsKept (headerOf c)) Header _ refl (check-other (fieldsLegal c) Record _ refl (check-other (rising (c .schedule)) Order _ refl (answered-other c)))
 
--- a refusal is no answer
-refused-done : {A : Type 0} {why : Refusal} → Refused why ≡ Done → A
-refused-done e = let z : _≡_ {A = ℕ} 0 1 = cc in absurd (omega arith)
-
--- a reading
-reading-by : (a : Answer Circuit) → cellBy (reading a .reply) (reading a .cell) ≡ a
+reading-other : (a : Answer Circuit) → Other a → eqb (replyNumber (reading a .reply)) (refusalNumber Buffer) ≡ false
 unfolding reading
-reading-by (refused why) = refl
-reading-by (answered c) = ap answered (circuit-of-cell c)
+reading-other (refused why) o = o .is
+reading-other (answered c) o = refl
 
-reading-replied : (a : Answer Circuit) → ((c : Circuit) → a ≡ answered c → checkCircuit c ≡ answered c) → Other a → Replied (reading a .reply) (reading a .cell)
-unfolding reading
-reading-replied (refused why) legal o = record { legal = λ e. refused-done e; other = o .is }
-reading-replied (answered c) legal o = record { legal = λ e. rw (circuit-of-cell c) (legal c refl); other = refl }
-
-pub read-by : (file : List ℕ) (x : Reading) → x ≡ reading (readCell file) → cellBy (x .reply) (x .cell) ≡ readCell file
-read-by file x e = rw e (reading-by (readCell file))
-
+-- what the reply of a reading says
 pub read-replied : (file : List ℕ) (x : Reading) → x ≡ reading (readCell file) → Replied (x .reply) (x .cell)
-read-replied file x e = rw e (reading-replied (readCell file) (read-checked file) (read-other file))
+read-replied file x e = record { legal = reading-legal file x e; other = rw e (reading-other (readCell file) (read-other file)) }
 
--- a check
-check-by : (cell : Cell) (a : Answer Circuit) → ((d : Circuit) → a ≡ answered d → d ≡ circuitOf cell) → cellBy (replyOf a) cell ≡ a
-check-by cell (refused why) same = refl
-check-by cell (answered d) same = ap answered (sym (same d refl))
-
-pub checked-by : (cell : Cell) (reply : Reply) → reply ≡ replyOf (checkCircuit (circuitOf cell)) → cellBy reply cell ≡ checkCircuit (circuitOf cell)
-checked-by cell reply e = rw e (check-by cell (checkCircuit (circuitOf cell)) (λ d f. check-same f))
-
-check-done : (c : Circuit) (a : Answer Circuit) → ((d : Circuit) → a ≡ answered d → d ≡ c) → replyOf a ≡ Done → a ≡ answered c
-check-done c (refused why) same e = refused-done e
-check-done c (answered d) same e = ap answered (same d refl)
-
+-- and of a check
 pub checked-replied : (cell : Cell) (reply : Reply) → reply ≡ replyOf (checkCircuit (circuitOf cell)) → Replied reply cell
 checked-replied cell reply e =
-    rw e (record {
-      legal = check-done (circuitOf cell) (checkCircuit (circuitOf cell)) (λ d f. check-same f);
-      other = rw (reply-number (checkCircuit (circuitOf cell))) (circuit-other (circuitOf cell) .is);
-    })
+    record { legal = check-legal cell reply e; other = rw (e, reply-number (checkCircuit (circuitOf cell))) (circuit-other (circuitOf cell) .is) }

@@ -15,6 +15,7 @@ use Rattle.refusal.specs.Answer.{Answer, refused, answered}
 use Rattle.lists.proofs.Cases.{and-left, and-right}
 use Rattle.format.specs.Circuit.{Circuit}
 use Rattle.cell.specs.declared.Cell.{Cell}
+use Rattle.cell.specs.Value.{cellBy}
 use Rattle.diagram.specs.Table.{never}
 use Rattle.diagram.specs.Call.{Columns, lengthsLegal, columnsSound, tableOf}
 use Rattle.diagram.proofs.Columns.{columns-path}
@@ -27,7 +28,7 @@ use Rattle.advance.specs.declared.Task.the-variants.{Start, Step, Until}
 use Rattle.advance.specs.Task.{runIn, taskCall}
 use Rattle.advance.specs.Went.{zeroed, workingAfter, WentAs}
 use Rattle.run.specs.Done.{DoneAs}
-use Rattle.run.specs.Replied.{cellBy, Replied}
+use Rattle.run.specs.Replied.{Replied}
 use Rattle.run.proofs.Cells.{Other, answered-other, check-other}
 
 -- working of legal lengths

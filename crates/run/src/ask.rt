@@ -15,7 +15,7 @@ ghost use Rattle.refusal.specs.declared.Reply.the-variants.{Refused};
 ghost use Rattle.refusal.specs.Answer.{answered};
 ghost use Rattle.format.specs.Legal.{checkCircuit};
 ghost use Rattle.format.specs.File.{readCell};
-ghost use Rattle.cell.specs.Value.{circuitOf};
+ghost use Rattle.cell.specs.Value.{circuitOf, cellBy};
 ghost use Rattle.diagram.specs.Call.{lengthsLegal};
 ghost use Rattle.rules.specs.Call.{askCall};
 ghost use Rattle.table.specs.Holds.{columns, Sized, Empty};
@@ -23,7 +23,7 @@ ghost use Rattle.net.specs.Net.{netCircuit};
 ghost use Rattle.net.specs.Laid.{Laid};
 ghost use Rattle.advance.specs.Task.{runIn};
 ghost use Rattle.run.specs.Asked.{AskedAs};
-ghost use Rattle.run.specs.Replied.{cellBy, Replied};
+ghost use Rattle.run.specs.Replied.{Replied};
 
 // The reply, a node's value and its next change at a pattern, 0 with a refusal.
 pub struct Asked {

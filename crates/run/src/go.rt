@@ -15,13 +15,13 @@ ghost use Rattle.refusal.specs.declared.Reply.the-variants.{Refused};
 ghost use Rattle.refusal.specs.Answer.{answered};
 ghost use Rattle.format.specs.Legal.{checkCircuit};
 ghost use Rattle.format.specs.File.{readCell};
-ghost use Rattle.cell.specs.Value.{circuitOf};
+ghost use Rattle.cell.specs.Value.{circuitOf, cellBy};
 ghost use Rattle.diagram.specs.Call.{lengthsLegal};
 ghost use Rattle.rules.specs.Call.{workingLegal};
 ghost use Rattle.table.specs.Holds.{columns};
 ghost use Rattle.advance.specs.Task.{taskCall};
 ghost use Rattle.run.specs.Done.{DoneAs};
-ghost use Rattle.run.specs.Replied.{cellBy, Replied};
+ghost use Rattle.run.specs.Replied.{Replied};
 
 const LEAST_WORKING: usize = 4096;
 

@@ -1,6 +1,6 @@
 // Words and decimal numbers as bytes: written into a lent buffer from a place on, and a number read from a text.
 // Promise: each put function leaves the buffer with its bytes written at the place (specs/Written.antt), every other byte as it was, and answers where it ended.
-// Lines of the programs are made of these; knows nothing of cells, and reads and prints nothing.
+// Lines of the programs and saved files are made of these; knows nothing of cells, and reads and prints nothing.
 ghost use mathlib.Core.Path.{_≡_};
 ghost use mathlib.Core.List.{[], _∷_};
 ghost use Prim.Native.Nat.{_+_, _≤_};

@@ -1,11 +1,13 @@
 -- `sts_read`: the length of the header first, then the reader; the horizon of a cell that was read fits 32 bits.
 use borrow.Author.Needs.{needs}
-use mathlib.Core.Path.{_≡_, refl, sym, _∙_, ap}
+use mathlib.Core.Path.{sym, _∙_}
 use native.Mathlib.Omega.{arith}
 use Rattle.format.proofs.Legal.{legal-read}
 use Rattle.refusal.specs.declared.Refusal.the-variants.{Buffer}
-use Rattle.format.specs.File.{readCell}
-use Rattle.editor.proofs.ReadCell.{wrong-length, right-length, was-refused, was-read, call-refused, call-answered, header-numbers}
+use Rattle.cell.specs.Value.{circuitOf}
+use Rattle.cell.proofs.Check.{header-kept}
+use Rattle.cell.proofs.Answers.{reading-refused, reading-done}
+use Rattle.editor.proofs.ReadCell.{wrong-length, right-length, call-refused, call-answered, header-numbers}
 use Rattle.editor.proofs.sts_read.Statement.{statement}
 use Rattle.editor.proofs.sts_read.Tie as tie
 
@@ -29,8 +31,9 @@ write-header-requires : tie.Need-write-header-requires
 write-header-requires c κs =
     let start = c .before .before .before .before .before .before .before .before in
     let read = c .before .before .before .before .read in
-    let found = was-read (readCell (start .args .file .now)) (read .result) (read .ensures) (c .before .before .enum-told .given .1) in
-    (c .before .before .before .before .before .if1 .left, rw (found .2) (omega (arith, legal-read (start .args .file .now) (found .0) (found .1) .limits .most-horizon)))
+    let found = reading-done (start .args .file .now) (read .result) (read .ensures) (c .before .before .enum-told .given .1) in
+    let limits = rw (header-kept (read .result .cell)) at (legal-read (start .args .file .now) (circuitOf (read .result .cell)) found .limits) in
+    (c .before .before .before .before .before .if1 .left, omega (arith, limits .most-horizon))
 
 enum-known-reply : tie.Need-enum-known-reply
 enum-known-reply c = search needs
@@ -47,9 +50,10 @@ returns-2 c =
     let read = c .before .before .before .before .before .before .before .read in
     let file = start .args .file .now in
     let header = start .args .header .now in
-    let found = was-read (readCell file) (read .result) (read .ensures) (c .before .before .before .before .before .enum-told .given .1) in
+    let cell = read .result .cell in
+    let found = reading-done file (read .result) (read .ensures) (c .before .before .before .before .before .enum-told .given .1) in
     let long = c .before .before .before .before .before .before .before .before .if1 .left in
-    call-answered file header (found .0) (right-length file header long ∙ found .1) (c .before .before .write-header .ensures ∙ header-numbers (read .result .cell .header) (found .0) (found .2))
+    call-answered file header (circuitOf cell) (right-length file header long ∙ found) (c .before .before .write-header .ensures ∙ header-numbers (cell .header) (circuitOf cell) (sym (header-kept cell)))
 
 returns-3 : tie.Need-returns-3
 returns-3 c =
@@ -59,7 +63,7 @@ returns-3 c =
     let header = start .args .header .now in
     let reply = c .before .before .reply .given in
     let long = c .before .before .before .before .before .if1 .left in
-    call-refused file header (reply .0 .0) (right-length file header long ∙ was-refused (readCell file) (read .result) (reply .0 .0) (read .ensures) (reply .1)) (c .refusal-number2 .ensures)
+    call-refused file header (reply .0 .0) (right-length file header long ∙ reading-refused file (read .result) (read .ensures) (reply .0 .0) (reply .1)) (c .refusal-number2 .ensures)
 
 pub sts-read-spec : {M : Type 1} → statement M
 sts-read-spec =

@@ -1,7 +1,8 @@
 -- `put_shown` meets its contract: the reply decides.
 use native.Mathlib.Omega.{arith}
 use borrow.Author.Needs.{needs}
-use Rattle.fields.proofs.Shown.{file-refused, file-read, file-counted}
+use Rattle.cell.proofs.Answers.{legal-counted, reading-legal}
+use Rattle.fields.proofs.Shown.{file-refused, file-read}
 use Rattle.fields.proofs.file.put_shown.Statement.{statement}
 use Rattle.fields.proofs.file.put_shown.Tie as tie
 
@@ -15,7 +16,7 @@ put-records-requires : tie.Need-put-records-requires
 put-records-requires c κs =
     let s = c .before .before .before .before .before .before in
     let r = c .before .before .before .read in
-    (file-counted (s .args .file .now) (r .result) (r .ensures) (c .before .enum-told .given .1), s .pre)
+    (legal-counted (r .result .cell) (reading-legal (s .args .file .now) (r .result) (r .ensures) (c .before .enum-told .given .1)), s .pre)
 
 enum-known-reply : tie.Need-enum-known-reply
 enum-known-reply c = search needs

@@ -5,7 +5,7 @@ use borrow.Author.Tests.{not-true, not-false}
 use Rattle.refusal.specs.Answer.{refused}
 use Rattle.table.specs.Holds.{columns}
 use Rattle.advance.specs.Task.{runIn}
-use Rattle.run.specs.Replied.{cellBy}
+use Rattle.cell.specs.Value.{cellBy}
 use Rattle.run.proofs.Questions.{asked-buffer, asked-cell}
 use Rattle.run.proofs.ask.ask_replied.Statement.{statement}
 use Rattle.run.proofs.ask.ask_replied.Tie as tie

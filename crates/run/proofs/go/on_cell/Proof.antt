@@ -1,6 +1,7 @@
 -- `on_cell` meets its contract. Assumes nothing.
 use borrow.Author.Needs.{needs}
-use Rattle.run.proofs.Cells.{checked-by, checked-replied}
+use Rattle.cell.proofs.Answers.{check-answers}
+use Rattle.run.proofs.Cells.{checked-replied}
 use Rattle.run.proofs.go.on_cell.Statement.{statement}
 use Rattle.run.proofs.go.on_cell.Tie as tie
 
@@ -29,7 +30,7 @@ same-length-6 : tie.Need-same-length-6
 same-length-6 c = search needs
 
 returns : tie.Need-returns
-returns c = rw (checked-by (c .before .before .before .before .before .before .before .before .before .before .before .before .before .before .before .before .before .before .before .before .before .before .before .before .before .before .args .cell) (c .before .before .before .before .before .before .before .before .before .before .before .before .before .before .before .before .before .before .before .check .result) (c .before .before .before .before .before .before .before .before .before .before .before .before .before .before .before .before .before .before .before .check .ensures)) at (c .before .before .before .before .before .before .before .before .before .before .before .before .on-replied .ensures)
+returns c = rw (check-answers (c .before .before .before .before .before .before .before .before .before .before .before .before .before .before .before .before .before .before .before .before .before .before .before .before .before .before .args .cell) (c .before .before .before .before .before .before .before .before .before .before .before .before .before .before .before .before .before .before .before .check .result) (c .before .before .before .before .before .before .before .before .before .before .before .before .before .before .before .before .before .before .before .check .ensures)) at (c .before .before .before .before .before .before .before .before .before .before .before .before .on-replied .ensures)
 
 pub on-cell-spec : {M : Type 1} → statement M
 on-cell-spec =

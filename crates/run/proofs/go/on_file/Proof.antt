@@ -1,6 +1,7 @@
 -- `on_file` meets its contract. Assumes nothing.
 use borrow.Author.Needs.{needs}
-use Rattle.run.proofs.Cells.{read-by, read-replied}
+use Rattle.cell.proofs.Answers.{reading-answers}
+use Rattle.run.proofs.Cells.{read-replied}
 use Rattle.run.proofs.go.on_file.Statement.{statement}
 use Rattle.run.proofs.go.on_file.Tie as tie
 
@@ -29,7 +30,7 @@ same-length-6 : tie.Need-same-length-6
 same-length-6 c = search needs
 
 returns : tie.Need-returns
-returns c = rw (read-by (c .before .before .before .before .before .before .before .before .before .before .before .before .before .before .before .before .before .before .before .before .before .before .before .before .before .before .before .before .args .file .now) (c .before .before .before .before .before .before .before .before .before .before .before .before .before .before .before .before .before .before .before .before .read .result) (c .before .before .before .before .before .before .before .before .before .before .before .before .before .before .before .before .before .before .before .before .read .ensures)) at (c .before .before .before .before .before .before .before .before .before .before .before .before .on-replied .ensures)
+returns c = rw (reading-answers (c .before .before .before .before .before .before .before .before .before .before .before .before .before .before .before .before .before .before .before .before .before .before .before .before .before .before .before .before .args .file .now) (c .before .before .before .before .before .before .before .before .before .before .before .before .before .before .before .before .before .before .before .before .read .result) (c .before .before .before .before .before .before .before .before .before .before .before .before .before .before .before .before .before .before .before .before .read .ensures)) at (c .before .before .before .before .before .before .before .before .before .before .before .before .on-replied .ensures)
 
 pub on-file-spec : {M : Type 1} → statement M
 on-file-spec =
