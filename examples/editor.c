@@ -3,6 +3,12 @@
  * shows what its nodes do.
  *
  *   editor CELL [PATTERN]
+ *   editor CELL NODE CAPACITANCE SAVED [PATTERN]
+ *
+ * In the second form it first gives the node, 2 to N + 1, another capacitance in fF,
+ * saves the changed cell in the file SAVED, and goes on with what it reads from there. If
+ * the changed cell is refused, or cannot be written, SAVED is left as it was. The file is
+ * written as SAVED.new first, and what stood there is lost. SAVED may be CELL.
  *
  * It prints how many patterns hold each node high after the start and after each
  * step, and then the wave of one pattern, 0 unless another is named: the nodes' values
@@ -13,9 +19,10 @@
  *
  *   gcc -std=c99 -O2 -Iinclude -o editor examples/editor.c target/staticlib/libeditor.a
  *   ./editor cells/inverter.cell 1
+ *   ./editor cells/inverter.cell 3 100 slower.cell 1
  *
- * Exit status: 0; 1 if something was refused; 2 if there is no such file, the memory is
- * too small or the arguments are wrong.
+ * Exit status: 0; 1 if something was refused; 2 if there is no such file or node, a file
+ * cannot be written, the memory is too small or the arguments are wrong.
  */
 #include "sts.h"
 
@@ -34,6 +41,25 @@
 /* A byte more than any cell has: of a longer file these bytes are refused with the same
    number. */
 #define FILE_ROOM (STS_MOST_BYTES + 1)
+
+/* Where docs/CELL-FILE.md has the first record of the node chain in the header, and in a
+   node record the next record and the capacitance: two bytes each. */
+#define FIRST_AT 8
+#define NEXT_AT 2
+#define CAPACITANCE_AT 6
+
+/* The largest number of two bytes. */
+#define MOST_CAPACITANCE 0xffff
+
+/* What the arguments ask for. */
+struct task {
+    const char *cell;
+    uint32_t pattern;
+    /* Where the changed cell is saved; NULL if nothing is to be changed. */
+    const char *saved;
+    uint32_t node;
+    uint32_t capacitance;
+};
 
 /* Three columns of one length. */
 struct columns {
@@ -114,6 +140,93 @@ static int read_file(struct work *work, const char *name)
         perror(name);
     fclose(stream);
     return failed;
+}
+
+/* Writes a file. It is written beside the named one first, and takes its place only when
+   it is whole: what stood there is not lost before. That rename replaces a file is so on
+   POSIX systems. Gives 0 if all went well. */
+static int write_file(const char *name, const uint8_t *bytes, size_t length)
+{
+    static const char ending[] = ".new";
+    char *beside = malloc(strlen(name) + sizeof ending);
+    FILE *stream;
+    int failed;
+
+    if (beside == NULL)
+        no_memory();
+    strcpy(beside, name);
+    strcat(beside, ending);
+    stream = fopen(beside, "wb");
+    failed = stream == NULL;
+    if (stream != NULL) {
+        failed = fwrite(bytes, 1, length, stream) != length;
+        /* What is still in the stream's buffer is written here. */
+        failed |= fclose(stream) != 0;
+        failed = failed || rename(beside, name) != 0;
+    }
+    if (failed) {
+        perror(beside);
+        if (stream != NULL)
+            remove(beside);
+    }
+    free(beside);
+    return failed;
+}
+
+/* A number of two bytes, the lower one first. */
+static uint32_t get_16(const uint8_t *at)
+{
+    return at[0] | (uint32_t)at[1] << 8;
+}
+
+static void put_16(uint8_t *at, uint32_t number)
+{
+    at[0] = number & 0xff;
+    at[1] = number >> 8 & 0xff;
+}
+
+/* The record of a node, 2 to N + 1. The chain is walked in a file that sts_read has
+   answered with 0: only then has it a record for each node. */
+static uint8_t *node_record(struct work *work, uint32_t node)
+{
+    uint32_t record = get_16(work->file + FIRST_AT);
+
+    for (; node > FIRST_NODE; node--)
+        record = get_16(work->file + STS_RECORD_BYTES * record + NEXT_AT);
+    return work->file + STS_RECORD_BYTES * record;
+}
+
+/* Gives a node another capacitance in the copy of the file that is in memory, and saves
+   that. Gives the exit status: 0 if the cell is saved. */
+static int change(struct work *work, const struct task *task)
+{
+    uint8_t saved[STS_MOST_BYTES];
+    uint32_t length;
+    uint32_t answer;
+
+    answer = sts_read(work->file, work->file_length,
+                      work->header, STS_HEADER_LENGTH);
+    if (answer != STS_OK) {
+        print_refusal(answer);
+        return 1;
+    }
+    if (task->node < FIRST_NODE || task->node - FIRST_NODE >= work->header[STS_NODES]) {
+        fprintf(stderr, "editor: the cell has no node record %" PRIu32 "\n", task->node);
+        return 2;
+    }
+    put_16(node_record(work, task->node) + CAPACITANCE_AT, task->capacitance);
+    answer = sts_save(work->file, work->file_length,
+                      saved, sizeof saved,
+                      &length);
+    if (answer != STS_OK) {
+        print_refusal(answer);
+        return 1;
+    }
+    if (write_file(task->saved, saved, length) != 0)
+        return 2;
+    printf("node %" PRIu32 " has %" PRIu32 " fF, saved in %" PRIu32 " bytes\n",
+           task->node, task->capacitance, length);
+    return 0;
 }
 
 /* Makes room for one more moment. */
@@ -343,38 +456,74 @@ static uint32_t show(struct work *work, uint32_t pattern)
     return answer;
 }
 
-/* A pattern's number, or one that no cell has. Gives 0 if it is one. */
-static int read_pattern(const char *text, uint32_t *pattern)
+/* Shows a cell in a table and with working columns of its own. Gives the exit status. */
+static int show_cell(struct work *work, uint32_t pattern)
+{
+    uint32_t answer;
+
+    make_columns(&work->table, TABLE_LENGTH);
+    make_columns(&work->working, WORKING_LENGTH);
+    answer = show(work, pattern);
+    if (answer != STS_OK)
+        print_refusal(answer);
+    free(work->moments);
+    free_columns(&work->working);
+    free_columns(&work->table);
+    return answer == STS_OK ? 0 : 1;
+}
+
+/* A number in decimal, or the largest if it is larger than that. Gives 0 if it is one. */
+static int read_number(const char *text, uint32_t *number)
 {
     char *end;
-    unsigned long number;
+    unsigned long value;
 
     if (*text < '0' || *text > '9')
         return 1;
-    number = strtoul(text, &end, 10);
-    *pattern = number > UINT32_MAX ? UINT32_MAX : (uint32_t)number;
+    value = strtoul(text, &end, 10);
+    *number = value > UINT32_MAX ? UINT32_MAX : (uint32_t)value;
     return *end != '\0';
+}
+
+/* Reads the arguments: the second form has three more. Gives 0 if they are right. */
+static int read_arguments(struct task *task, int count, char **arguments)
+{
+    int changes = count >= 5;
+    int pattern = changes ? 5 : 2;
+
+    if (count < 2 || count > pattern + 1)
+        return 1;
+    task->cell = arguments[1];
+    if (changes) {
+        task->saved = arguments[4];
+        if (read_number(arguments[2], &task->node) != 0 ||
+            read_number(arguments[3], &task->capacitance) != 0 ||
+            task->capacitance > MOST_CAPACITANCE)
+            return 1;
+    }
+    return count > pattern ? read_number(arguments[pattern], &task->pattern) : 0;
 }
 
 int main(int count, char **arguments)
 {
     static struct work work;
-    uint32_t pattern = 0;
-    uint32_t answer;
+    struct task task = {0};
+    int status;
 
-    if (count < 2 || count > 3 || (count == 3 && read_pattern(arguments[2], &pattern) != 0)) {
-        fputs("usage: editor CELL [PATTERN]\n", stderr);
+    if (read_arguments(&task, count, arguments) != 0) {
+        fputs("usage: editor CELL [PATTERN]\n"
+              "       editor CELL NODE CAPACITANCE SAVED [PATTERN]\n", stderr);
         return 2;
     }
-    if (read_file(&work, arguments[1]) != 0)
+    if (read_file(&work, task.cell) != 0)
         return 2;
-    make_columns(&work.table, TABLE_LENGTH);
-    make_columns(&work.working, WORKING_LENGTH);
-    answer = show(&work, pattern);
-    if (answer != STS_OK)
-        print_refusal(answer);
-    free(work.moments);
-    free_columns(&work.working);
-    free_columns(&work.table);
-    return answer == STS_OK ? 0 : 1;
+    if (task.saved != NULL) {
+        status = change(&work, &task);
+        if (status != 0)
+            return status;
+        /* From here on the cell is the one on the disk. */
+        if (read_file(&work, task.saved) != 0)
+            return 2;
+    }
+    return show_cell(&work, task.pattern);
 }

@@ -197,6 +197,166 @@ static void check_longest_file(void)
           "sts_read refuses more bytes than the limits allow with 1");
 }
 
+/* The inverter with its records the other way round, from the entry to the first node. */
+static const uint8_t backwards[96] = {
+    2, 2, 1, 2, 0xe8, 3,  0, 0, 5,    0, 3, 0, 1, 0, 0, 0,
+    3, 0, 0, 0, 2,    4,  0, 0, 200,  0, 0, 0, 0, 0, 0, 0,
+    2, 0, 0, 0, 0,    2,  0, 3, 0xe8, 3, 0, 0, 0, 0, 0, 0,
+    2, 0, 2, 0, 1,    2,  1, 3, 0xd0, 7, 0, 0, 0, 0, 0, 0,
+    1, 0, 0, 0, 0,    3, 50, 0, 0,    0, 0, 0, 0, 0, 0, 0,
+    1, 0, 4, 0, 1,    2,  0, 0, 0,    0, 0, 0, 0, 0, 0, 0,
+};
+
+/* The buffer for a saved file and its length stand within more memory, so that nothing
+   beside them changes. */
+struct buffer {
+    uint8_t before[STS_RECORD_BYTES];
+    uint8_t out[STS_MOST_BYTES + STS_RECORD_BYTES];
+    uint32_t length[3];
+};
+
+static struct buffer buffer;
+
+static void fill_buffer(struct buffer *b)
+{
+    uint8_t *bytes = (uint8_t *)b;
+    size_t i;
+
+    for (i = 0; i < sizeof *b; i++)
+        bytes[i] = (uint8_t)(7 * i + 3);
+}
+
+/* Saves a file into a buffer of this length. */
+static uint32_t save_into(const uint8_t *file, size_t file_length, size_t out_length)
+{
+    fill_buffer(&buffer);
+    return sts_save(file, file_length, buffer.out, out_length, &buffer.length[1]);
+}
+
+/* All bytes are as before the call, but for this saved file and its length. */
+static int buffer_has(const uint8_t *file, size_t file_length)
+{
+    struct buffer expected;
+
+    fill_buffer(&expected);
+    memcpy(expected.out, file, file_length);
+    expected.length[1] = (uint32_t)file_length;
+    return memcmp(&buffer, &expected, sizeof expected) == 0;
+}
+
+static int buffer_is_kept(void)
+{
+    struct buffer expected;
+
+    fill_buffer(&expected);
+    return memcmp(&buffer, &expected, sizeof expected) == 0;
+}
+
+/* A file is saved as these bytes in every buffer that is long enough, and is refused 8 in
+   every shorter one. */
+static void check_saved(const uint8_t *file, const uint8_t *saved, size_t length, const char *what)
+{
+    int refused = 1, answered = 1;
+    size_t room;
+
+    for (room = 0; room < length; room++)
+        refused &= save_into(file, length, room) == STS_BUFFER && buffer_is_kept();
+    check(refused, "sts_save refuses every short buffer with 8 and keeps it and the length");
+    for (room = length; room <= sizeof buffer.out; room++)
+        answered &= save_into(file, length, room) == STS_OK && buffer_has(saved, length);
+    check(answered, what);
+}
+
+static void check_save(void)
+{
+    uint8_t file[sizeof backwards];
+    uint32_t header[STS_HEADER_LENGTH];
+
+    memcpy(file, backwards, sizeof file);
+    check_saved(file, inverter, sizeof file, "sts_save puts the inverter's records in order");
+    check(memcmp(file, backwards, sizeof file) == 0, "sts_save only reads the file");
+    check_saved(inverter, inverter, sizeof inverter, "sts_save keeps a saved file as it is");
+    check(sts_read(buffer.out, buffer.length[1], header, STS_HEADER_LENGTH) == STS_OK &&
+              header[STS_NODES] == 2 && header[STS_HORIZON] == 1000,
+          "sts_read reads what sts_save saved");
+}
+
+/* Without entries the schedule has no first record. */
+static void check_save_without_entries(void)
+{
+    uint8_t file[80], saved[80];
+
+    memcpy(saved, inverter, sizeof saved);
+    saved[2] = saved[12] = 0;
+    memcpy(file, saved, 16);
+    memcpy(file + 16, inverter + 64, 16);
+    memcpy(file + 32, inverter + 32, 16);
+    memcpy(file + 48, inverter + 16, 16);
+    memcpy(file + 64, inverter + 48, 16);
+    file[8] = 3;
+    file[10] = 4;
+    file[64 + 2] = 1;
+    check_saved(file, saved, sizeof file, "sts_save saves a cell without a schedule");
+}
+
+static void check_save_longest(void)
+{
+    static uint8_t file[STS_MOST_BYTES];
+
+    make_longest_file(file);
+    check(save_into(file, sizeof file, STS_MOST_BYTES) == STS_OK && buffer_has(file, sizeof file),
+          "sts_save saves a cell at all its limits into STS_MOST_BYTES bytes");
+    check(save_into(file, sizeof file, STS_MOST_BYTES - 1) == STS_BUFFER && buffer_is_kept(),
+          "sts_save refuses a byte less for it with 8");
+}
+
+/* A wrong file is refused with its own number in a long buffer, in a short one and in one
+   of no bytes: 8 comes last. */
+static void check_save_refused(const uint8_t *file, size_t length, uint32_t number,
+                               const char *what)
+{
+    static const size_t rooms[6] = { sizeof buffer.out, STS_MOST_BYTES, 96, 95, 1, 0 };
+    int i;
+
+    for (i = 0; i < 6; i++) {
+        check(save_into(file, length, rooms[i]) == number, what);
+        check(buffer_is_kept(), "a refused sts_save keeps the buffer and the length");
+    }
+}
+
+/* The inverter with one byte changed, or cut. */
+static void check_save_damaged(size_t at, uint8_t byte, size_t length, uint32_t number,
+                               const char *what)
+{
+    uint8_t file[sizeof backwards];
+
+    memcpy(file, backwards, sizeof file);
+    file[at] = byte;
+    check_save_refused(file, length, number, what);
+}
+
+static void check_save_refusals(void)
+{
+    const size_t all = sizeof backwards;
+    uint8_t file[sizeof inverter + 16];
+
+    check_save_damaged(0, 2, 0, STS_LENGTH, "sts_save refuses no bytes with 1");
+    check_save_damaged(3, 13, 15, STS_LENGTH, "sts_save refuses 15 bytes with 1, before 2");
+    check_save_damaged(3, 13, all - 1, STS_HEADER, "sts_save refuses the header with 2");
+    check_save_damaged(10, 0, all - 1, STS_LENGTH, "sts_save refuses a byte less with 1");
+    check_save_damaged(10, 0, all, STS_CHAIN, "sts_save refuses a chain with 3");
+    check_save_damaged(64 + 6, 0, all, STS_RECORD, "sts_save refuses a record with 4");
+    memcpy(file, inverter, sizeof inverter);
+    memcpy(file + 96, inverter + 80, 16);
+    file[2] = 2;
+    file[80 + 2] = 6;
+    check_save_refused(file, sizeof file, STS_ORDER, "sts_save refuses the order with 5");
+    file[32 + 6] = 0;
+    check_save_refused(file, sizeof file, STS_RECORD, "sts_save refuses 4 before 5");
+    file[80 + 2] = 0;
+    check_save_refused(file, sizeof file, STS_CHAIN, "sts_save refuses 3 before 4");
+}
+
 /*
  * A function table in memory, with more room in each column than is lent.
  */
@@ -1159,6 +1319,10 @@ int main(void)
     check_order();
     check_header_lengths();
     check_longest_file();
+    check_save();
+    check_save_without_entries();
+    check_save_longest();
+    check_save_refusals();
     check_fresh();
     check_choose();
     check_count();

@@ -29,10 +29,11 @@ pub fn bytes(path: &Path) -> Vec<u8> {
     fs::read(path).unwrap_or_else(|error| panic!("{}: {error}", path.display()))
 }
 
-/// What a program wrote to standard output and to standard error.
+/// What a program wrote to standard output, which need not be text, and to standard
+/// error.
 #[derive(Debug, PartialEq, Eq)]
-pub struct Written {
-    pub output: String,
+pub struct Written<T = String> {
+    pub output: T,
     pub errors: String,
 }
 
@@ -44,6 +45,13 @@ pub fn run(name: &str, input: &[u8]) -> Result<String, String> {
 
 /// The same with arguments, and with what went to standard error.
 pub fn run_with(name: &str, arguments: &[&str], input: &[u8]) -> Result<Written, String> {
+    let Written { output, errors } = run_bytes(name, arguments, input)?;
+    let output = String::from_utf8(output).map_err(|error| format!("{name}: {error}"))?;
+    Ok(Written { output, errors })
+}
+
+/// The same where standard output is no text.
+pub fn run_bytes(name: &str, arguments: &[&str], input: &[u8]) -> Result<Written<Vec<u8>>, String> {
     let path = in_repository("target/bin").join(name);
     let told = |error: io::Error| format!("{}: {error}", path.display());
     let mut child = Command::new(&path)
@@ -63,10 +71,9 @@ pub fn run_with(name: &str, arguments: &[&str], input: &[u8]) -> Result<Written,
     if output.status.code().is_none() {
         return Err(format!("{}: {}", path.display(), output.status));
     }
-    let text =
-        |bytes| String::from_utf8(bytes).map_err(|error| format!("{}: {error}", path.display()));
     Ok(Written {
-        output: text(output.stdout)?,
-        errors: text(output.stderr)?,
+        output: output.stdout,
+        errors: String::from_utf8(output.stderr)
+            .map_err(|error| format!("{}: {error}", path.display()))?,
     })
 }

@@ -40,6 +40,14 @@ mod raw {
             header_length: usize,
         ) -> u32;
 
+        pub fn sts_save(
+            file: *const u8,
+            file_length: usize,
+            out: *mut u8,
+            out_length: usize,
+            length: *mut u32,
+        ) -> u32;
+
         pub fn sts_fresh(
             letter: *mut u32,
             letter_length: usize,
@@ -128,6 +136,22 @@ pub fn read(file: &[u8], header: &mut [u32]) -> u32 {
     // SAFETY: both pointers are valid for their lengths, only the second is
     // written to, and the two borrows do not overlap.
     unsafe { raw::sts_read(file.as_ptr(), file.len(), header.as_mut_ptr(), header.len()) }
+}
+
+/// Writes the saved form of a cell file to the front of `out`, and its length to
+/// `length`.
+pub fn save(file: &[u8], out: &mut [u8], length: &mut u32) -> u32 {
+    // SAFETY: the pointers are valid for their lengths, only the last two are
+    // written to, and the borrows do not overlap.
+    unsafe {
+        raw::sts_save(
+            file.as_ptr(),
+            file.len(),
+            out.as_mut_ptr(),
+            out.len(),
+            length,
+        )
+    }
 }
 
 /// Makes the three columns a fresh table.

@@ -9,6 +9,7 @@ use comparison::program::{bytes, in_repository};
 use comparison::random::Random;
 use comparison::refusal::Refusal;
 use comparison::replay::{hex, Cases};
+use comparison::saved;
 use comparison::tally::Tally;
 
 /// The inverter of the requirements, byte by byte: the header, nodes 2 and 3,
@@ -299,6 +300,75 @@ fn shuffled_records() {
     for places in [[5, 4, 3, 2, 1], [3, 1, 5, 2, 4], [2, 1, 4, 3, 5]] {
         let file = Layout::new(&inverter(), &places).file;
         assert_eq!(parse(&file), Ok(inverter()), "file {}", hex(&file));
+    }
+}
+
+/// A file whose records stand in no order: the transistor first, then nodes 2, 4
+/// and 3, then the second entry before the first.
+#[rustfmt::skip]
+const SAMPLE: [u8; 112] = [
+    3, 1, 2, 1,  0xf4, 1, 0, 0,  2, 0, 1, 0,     6, 0, 0, 0,
+    2, 0, 0, 0,  0, 3, 2, 4,     0x88, 19, 0, 0, 0, 0, 0, 0,
+    1, 0, 4, 0,  1, 2, 0, 0,     0, 0, 0, 0,     0, 0, 0, 0,
+    1, 0, 0, 0,  0, 0, 30, 0,    0, 0, 0, 0,     0, 0, 0, 0,
+    1, 0, 3, 0,  1, 1, 0, 0,     0, 0, 0, 0,     0, 0, 0, 0,
+    3, 0, 0, 0,  2, 3, 0, 0,     44, 1, 0, 0,    0, 0, 0, 0,
+    3, 0, 5, 0,  3, 0, 0, 0,     200, 0, 0, 0,   0, 0, 0, 0,
+];
+
+/// Its saved form.
+#[rustfmt::skip]
+const SAVED: [u8; 112] = [
+    3, 1, 2, 1,  0xf4, 1, 0, 0,  1, 0, 4, 0,     5, 0, 0, 0,
+    1, 0, 2, 0,  1, 2, 0, 0,     0, 0, 0, 0,     0, 0, 0, 0,
+    1, 0, 3, 0,  1, 1, 0, 0,     0, 0, 0, 0,     0, 0, 0, 0,
+    1, 0, 0, 0,  0, 0, 30, 0,    0, 0, 0, 0,     0, 0, 0, 0,
+    2, 0, 0, 0,  0, 3, 2, 4,     0x88, 19, 0, 0, 0, 0, 0, 0,
+    3, 0, 6, 0,  3, 0, 0, 0,     200, 0, 0, 0,   0, 0, 0, 0,
+    3, 0, 0, 0,  2, 3, 0, 0,     44, 1, 0, 0,    0, 0, 0, 0,
+];
+
+#[test]
+fn saved_by_hand() {
+    assert_eq!(saved::of_file(&SAMPLE), Ok(SAVED.to_vec()));
+    assert_eq!(saved::of_file(&SAVED), Ok(SAVED.to_vec()));
+    assert_eq!(saved::of_file(&INVERTER), Ok(INVERTER.to_vec()));
+    // Without entries, the schedule has no first record.
+    let mut file = with(&[(2, &[0]), (12, &[0])]);
+    file.truncate(ENTRY);
+    assert_eq!(saved::of_file(&file), Ok(file));
+}
+
+/// The length of the buffer is looked at last, and a longer one is fine.
+#[test]
+fn saved_in_a_buffer() {
+    for length in 0..=2 * SAMPLE.len() {
+        let expected = match length < SAMPLE.len() {
+            true => Err(Refusal::Buffer),
+            false => Ok(SAVED.to_vec()),
+        };
+        assert_eq!(saved::in_buffer(&SAMPLE, length), expected);
+        let damaged = [
+            (Refusal::Length, INVERTER[..95].to_vec()),
+            (Refusal::Header, with(&[(3, &[13])])),
+            (Refusal::Chain, with(&[(P, &[1])])),
+            (Refusal::Record, with(&[(N + 4, &[2])])),
+        ];
+        for (refusal, file) in damaged {
+            assert_eq!(saved::in_buffer(&file, length), Err(refusal));
+        }
+    }
+}
+
+/// What is saved is what is laid out in order.
+#[test]
+fn saved_in_order() {
+    let mut random = Random::new(19);
+    for round in 0..5_000 {
+        let file = legal::layout(&mut random, 0).file;
+        let cell = parse(&file).expect("a legal file");
+        let saved = saved::of_cell(&cell);
+        assert_eq!(saved, Layout::in_order(&cell).file, "round {round}");
     }
 }
 

@@ -44,18 +44,10 @@ fn legal_cells() {
     }
 }
 
-/// No input at all, and more than any cell has.
+/// No input at all, the largest cell, and more than any cell has.
 #[test]
 fn extreme_lengths() {
-    let mut random = Random::new(10);
-    for length in [
-        0, 1, 15, 16, 2_447, 2_448, 2_449, 2_464, 4_096, 4_097, 10_000, 70_000,
-    ] {
-        let mut file = legal::layout(&mut random, 0).file;
-        file.resize(length, 0);
-        compare(&file).unwrap_or_else(|why| {
-            let start = &file[..length.min(2_448)];
-            panic!("{why}: {length} bytes, {}", hex(start))
-        });
+    for file in legal::of_extreme_lengths(&mut Random::new(10)) {
+        compare(&file).unwrap_or_else(|why| panic!("{why}: {} bytes", file.len()));
     }
 }

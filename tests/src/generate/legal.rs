@@ -32,6 +32,32 @@ pub fn cell(random: &mut Random, entries: u32) -> Cell {
     }
 }
 
+/// A legal cell with the most node records, transistors and schedule entries.
+pub fn largest(random: &mut Random) -> Cell {
+    let mut cell = cell(random, *ENTRIES.end());
+    let [nodes, transistors] = [NODES, TRANSISTORS].map(|counts| *counts.end() as usize);
+    cell.nodes.resize(nodes, cell.nodes[0]);
+    cell.transistors.resize(transistors, cell.transistors[0]);
+    cell
+}
+
+/// Files of no bytes, about a header, the least and the most bytes that a cell has,
+/// and far longer ones: legal cells and the largest, cut or with zeros behind them.
+pub fn of_extreme_lengths(random: &mut Random) -> Vec<Vec<u8>> {
+    let lengths = [
+        0, 1, 15, 16, 47, 48, 49, 2_447, 2_448, 2_449, 2_464, 4_096, 4_097, 10_000, 70_000,
+    ];
+    let mut files = vec![];
+    for length in lengths {
+        let large = Layout::in_order(&largest(random)).file;
+        for mut file in [layout(random, 0).file, large] {
+            file.resize(length, 0);
+            files.push(file);
+        }
+    }
+    files
+}
+
 /// A legal cell with at least `entries` schedule entries, as a file; its records
 /// are in any order.
 pub fn layout(random: &mut Random, entries: u32) -> Layout {
