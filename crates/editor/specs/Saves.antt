@@ -1,4 +1,4 @@
--- sts_save: what the editor is given, by the answer of crate format's definition (its specs/Saved.antt).
+-- sts_save and sts_small: what the editor is given, by the answer of the definition (crate format's specs/Saved.antt, crate catalog's specs/Small.antt).
 use mathlib.Core.Path.{_≡_}
 use mathlib.Core.List.{List}
 use Prim.Native.Nat.{ℕ}

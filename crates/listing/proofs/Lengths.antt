@@ -9,7 +9,7 @@ use borrow.Author.Tests.{leb-true}
 use Rattle.lists.proofs.Cases.{and-right}
 use Rattle.diagram.specs.Call.{leastEntries, mostEntries}
 use Rattle.text.specs.declared.Parsed.{Parsed}
-use Rattle.text.specs.declared.Parsed.the-variants.{Number, Other}
+use Rattle.text.specs.declared.Parsed.the-variants.{Number, Large, Other}
 use Rattle.text.specs.Number.{parsed}
 use Rattle.listing.specs.Argument.{parsedLength, LengthAs}
 
@@ -19,6 +19,7 @@ most-by n false h = omega arith
 
 length-most : (p : Parsed) → parsedLength p ≤ mostEntries
 length-most (Number n) = most-by n (leb leastEntries n && leb n mostEntries) (λ e. leb-true n mostEntries (and-right (leb leastEntries n) (leb n mostEntries) e))
+length-most Large = omega arith
 length-most Other = omega arith
 
 pub length-as : {text : List ℕ} {length : ℕ} → length ≡ parsedLength (parsed text) → LengthAs text length

@@ -6,7 +6,7 @@ use Prim.Native.Nat.{ℕ, _≤_}
 use lib.Dec.{leb}
 use Rattle.diagram.specs.Call.{leastEntries, mostEntries}
 use Rattle.text.specs.declared.Parsed.{Parsed}
-use Rattle.text.specs.declared.Parsed.the-variants.{Number, Other}
+use Rattle.text.specs.declared.Parsed.the-variants.{Number, Large, Other}
 use Rattle.text.specs.Number.{parsed}
 
 -- a length in its range, or 0
@@ -15,6 +15,7 @@ lengthOf n = cond (leb leastEntries n && leb n mostEntries) n 0
 
 abbrev pub parsedLength : Parsed → ℕ
 parsedLength (Number n) = lengthOf n
+parsedLength Large = 0
 parsedLength Other = 0
 
 -- a decimal number in the range, or 0 for any other text

@@ -15,6 +15,7 @@ pub fn table_length(text: &[u8]) -> usize
     let parsed = parse(text);
     match parsed {
         Parsed::Number(n) => in_range(n),
+        Parsed::Large => 0,
         Parsed::Other => 0,
     }
 }

@@ -6,7 +6,7 @@ use native.Mathlib.Omega.{arith}
 use lib.ListN.{take}
 use Rattle.format.specs.File.{readCell}
 use Rattle.fields.proofs.Prefix.{read-prefix}
-use Rattle.save.specs.Printed.{savedOutput, savedErrors}
+use Rattle.output.specs.Printed.{savedOutput, savedErrors}
 
 pub printed-prefix : (file : List ℕ)
     → (savedOutput (readCell (take 4096 file)) ≡ savedOutput (readCell file)) × (savedErrors (readCell (take 4096 file)) ≡ savedErrors (readCell file))

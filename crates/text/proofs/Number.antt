@@ -1,7 +1,7 @@
 -- Laws of a number read from a text; what decimal writes is read back.
 use mathlib.Core.Path.{_≡_, refl, sym, _∙_, ap}
 use mathlib.Core.Logic.{⊎-elim}
-use mathlib.Core.Bool.{true, false, and-false}
+use mathlib.Core.Bool.{true, false, cond, and-false}
 use mathlib.Core.List.{List, [], _∷_, _++_}
 use Prim.Native.Nat.{ℕ, zero, suc, _+_, _-_, _*_, _/_, _%_, _^_, _<_, _≤_}
 use native.Mathlib.Nat.{le-refl, le-trans}
@@ -12,9 +12,9 @@ use lib.ListN.{length, getD, drop, drop-of-length-le}
 use lib.Seq.{drop-cons}
 use borrow.Author.Tests.{lt-ltb, le-ltb, le-leb, lt-leb}
 use Rattle.lists.proofs.Cases.{lt-or-ge, and-left, and-right, and-both}
-use Rattle.text.specs.declared.Parsed.the-variants.{Number, Other}
+use Rattle.text.specs.declared.Parsed.the-variants.{Number, Large, Other}
 use Rattle.text.specs.Decimal.{decimal}
-use Rattle.text.specs.Number.{isDigit, allDigits, valueFrom, parsedFrom, parsed}
+use Rattle.text.specs.Number.{isDigit, allDigits, valueFrom, sized, parsedFrom, parsed, withDigit}
 use Rattle.text.proofs.Decimal.{decimal-digit, decimal-more, decimal-count}
 
 -- more digits make no smaller value
@@ -84,7 +84,7 @@ unfolding parsed
 parsed-some [] h = absurd (h refl)
 parsed-some (b ∷ bs) h = refl
 
--- a turn of the loop that reads: a byte that is no digit, a value that does not fit, a digit, the end
+-- a turn of the loop that reads: a byte that is no digit, a digit, the end
 from-bad : (v b : ℕ) (bs : List ℕ) → isDigit b ≡ false → Other ≡ parsedFrom v (b ∷ bs)
 unfolding parsedFrom allDigits
 from-bad v b bs e = rw e
@@ -97,27 +97,56 @@ pub from-high : (text : List ℕ) (v i : ℕ) → i < length text → 57 < getD 
 from-high text v i h g =
     rw (drop-cons text i 0 h) (from-bad v (getD text i 0) (drop (suc i) text) (rw (lt-leb (getD text i 0) 57 g) (and-false (leb 48 (getD text i 0)))))
 
-pub from-large : (v : ℕ) (bs : List ℕ) → 4294967295 < v → Other ≡ parsedFrom v bs
-unfolding parsedFrom
-from-large v bs h =
-    let g : 2 ^ 32 ≤ valueFrom v bs = omega (arith, value-grows v bs) in
-    rw (le-ltb (valueFrom v bs) (2 ^ 32) g, and-false (allDigits bs))
+-- a value by its size
+sized-large : (v : ℕ) → 2 ^ 32 ≤ v → Large ≡ sized v
+sized-large v h = rw (le-ltb v (2 ^ 32) h)
 
-from-digit : (v b : ℕ) (bs : List ℕ) → isDigit b ≡ true → parsedFrom v (b ∷ bs) ≡ parsedFrom (v * 10 + (b - 48)) bs
+sized-number : (v : ℕ) → v < 2 ^ 32 → Number v ≡ sized v
+sized-number v h = rw (lt-ltb v (2 ^ 32) h)
+
+-- a value that is beyond 32 bits decides, whatever digits follow
+from-digit : (v b : ℕ) (bs : List ℕ) → isDigit b ≡ true → parsedFrom v (b ∷ bs) ≡ parsedFrom (withDigit v b) bs
 unfolding parsedFrom allDigits valueFrom
-from-digit v b bs e = rw e
+from-digit v b bs e =
+    ⊎-elim
+    (λ (s : v < 2 ^ 32). rw (e, lt-ltb v (2 ^ 32) s))
+    (λ (s : 2 ^ 32 ≤ v).
+    let more = value-grows (v * 10 + (b - 48)) bs in
+    let same = sym (sized-large (valueFrom (v * 10 + (b - 48)) bs) (omega arith)) ∙ sized-large (valueFrom v bs) (omega (arith, value-grows v bs)) in
+    rw (e, le-ltb v (2 ^ 32) s) (ap (λ x. cond (allDigits bs) x Other) same))
+    (lt-or-ge v (2 ^ 32))
 
 pub from-more : (text : List ℕ) (v i : ℕ) → i < length text → 48 ≤ getD text i 0 → getD text i 0 ≤ 57
-    → parsedFrom v (drop i text) ≡ parsedFrom (v * 10 + (getD text i 0 - 48)) (drop (i + 1) text)
+    → parsedFrom v (drop i text) ≡ parsedFrom (withDigit v (getD text i 0)) (drop (i + 1) text)
 from-more text v i h g l =
     rw (add-one, drop-cons text i 0 h) (from-digit v (getD text i 0) (drop (suc i) text) (rw (le-leb 48 (getD text i 0) g, le-leb (getD text i 0) 57 l)))
 
-from-end : (v : ℕ) → v < 2 ^ 32 → Number v ≡ parsedFrom v []
-unfolding parsedFrom allDigits valueFrom
-from-end v h = rw (lt-ltb v (2 ^ 32) h)
+pub with-digit-kept : (v b : ℕ) → 2 ^ 32 ≤ v → v ≡ withDigit v b
+with-digit-kept v b h = rw (le-ltb v (2 ^ 32) h)
 
-pub from-done : (text : List ℕ) (v i : ℕ) → length text ≤ i → v < 2 ^ 32 → Number v ≡ parsedFrom v (drop i text)
-from-done text v i h g = rw (drop-of-length-le text {i = i} h) (from-end v g)
+pub with-digit-more : (v b : ℕ) → v < 2 ^ 32 → v * 10 + (b - 48) ≡ withDigit v b
+with-digit-more v b h = rw (lt-ltb v (2 ^ 32) h)
+
+-- so the value stays small
+pub with-digit-small : (v b : ℕ) → b ≤ 57 → v < 10 * 2 ^ 32 → withDigit v b < 10 * 2 ^ 32
+with-digit-small v b h g =
+    ⊎-elim
+    (λ (s : v < 2 ^ 32). omega (arith, with-digit-more v b s))
+    (λ (s : 2 ^ 32 ≤ v). omega (arith, with-digit-kept v b s))
+    (lt-or-ge v (2 ^ 32))
+
+from-end : (v : ℕ) → sized v ≡ parsedFrom v []
+unfolding parsedFrom allDigits valueFrom
+from-end v = refl
+
+from-done : (text : List ℕ) (v i : ℕ) → length text ≤ i → sized v ≡ parsedFrom v (drop i text)
+from-done text v i h = rw (drop-of-length-le text {i = i} h) (from-end v)
+
+pub from-number : (text : List ℕ) (v i : ℕ) → length text ≤ i → v < 2 ^ 32 → Number v ≡ parsedFrom v (drop i text)
+from-number text v i h g = sized-number v g ∙ from-done text v i h
+
+pub from-large : (text : List ℕ) (v i : ℕ) → length text ≤ i → 2 ^ 32 ≤ v → Large ≡ parsedFrom v (drop i text)
+from-large text v i h g = sized-large v g ∙ from-done text v i h
 
 -- what decimal writes is read back
 decimal-some : (n : ℕ) → length (decimal n) ≡ 0 → ⊥
@@ -130,3 +159,7 @@ decimal-some n e =
 pub decimal-parsed : (n : ℕ) → n < 2 ^ 32 → parsed (decimal n) ≡ Number n
 unfolding parsedFrom
 decimal-parsed n h = sym (parsed-some (decimal n) (decimal-some n)) ∙ rw (decimal-digits n, decimal-value n, lt-ltb n (2 ^ 32) h)
+
+pub decimal-large : (n : ℕ) → 2 ^ 32 ≤ n → parsed (decimal n) ≡ Large
+unfolding parsedFrom
+decimal-large n h = sym (parsed-some (decimal n) (decimal-some n)) ∙ rw (decimal-digits n, decimal-value n, le-ltb n (2 ^ 32) h)

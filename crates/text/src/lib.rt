@@ -7,7 +7,7 @@ ghost use Prim.Native.Nat.{_+_, _≤_};
 ghost use lib.ListN.{length};
 ghost use Rattle.text.specs.Decimal.{decimal, spaced, ended};
 ghost use Rattle.text.specs.Written.{Wrote};
-ghost use Rattle.text.specs.Number.{parsed};
+ghost use Rattle.text.specs.Number.{parsed, withDigit};
 
 pub fn put_byte(out: &mut [u8], at: usize, byte: u8) -> usize
     requires { ⌜ at + length (byte ∷ []) ≤ length (now out) ⌝ }
@@ -66,10 +66,22 @@ pub fn put_ended(out: &mut [u8], at: usize, n: u32) -> usize
     put_byte(out, end, b'\n')
 }
 
-// A number, or any other text.
+// A number within 32 bits, a larger one, or any other text.
 pub enum Parsed {
     Number(u32),
+    Large,
     Other,
+}
+
+// A value with a digit behind it. One that is beyond 32 bits already stays as it is.
+fn with_digit(value: u64, byte: u8) -> u64
+    requires { ⌜ (48 ≤ byte) × (byte ≤ 57) ⌝ }
+    ensures { λ r. ⌜ r ≡ withDigit value byte ⌝ }
+{
+    if 4294967295 < value {
+        return value;
+    }
+    value * 10 + (byte - 48) as u64
 }
 
 pub fn parse(text: &[u8]) -> Parsed
@@ -88,11 +100,11 @@ pub fn parse(text: &[u8]) -> Parsed
         if 57 < byte {
             return Parsed::Other;
         }
-        value = value * 10 + (byte - 48) as u64;
-        if 4294967295 < value {
-            return Parsed::Other;
-        }
+        value = with_digit(value, byte);
         i += 1;
+    }
+    if 4294967295 < value {
+        return Parsed::Large;
     }
     Parsed::Number(value as u32)
 }

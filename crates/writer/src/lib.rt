@@ -30,7 +30,8 @@ pub struct Saving {
     pub length: u32,
 }
 
-fn refused(why: Refusal) -> Saving
+// A refusal, which saves nothing.
+pub fn refused(why: Refusal) -> Saving
     ensures { λ r. ⌜ r ≡ saving (answer.refused why) ⌝ }
 {
     Saving {

@@ -7,8 +7,8 @@ use Rattle.editor.proofs.saves.sts_save.Tie as tie
 save-file-requires : tie.Need-save-file-requires
 save-file-requires c κs = search needs
 
-give-number-requires : tie.Need-give-number-requires
-give-number-requires c κs = search needs
+give-length-requires : tie.Need-give-length-requires
+give-length-requires c κs = search needs
 
 same-length : tie.Need-same-length
 same-length c = search needs
@@ -16,8 +16,8 @@ same-length c = search needs
 returns : tie.Need-returns
 returns c =
     let s = c .before .before .before .before .save-file in
-    let n = c .give-number .ensures in
+    let n = c .give-length .ensures in
     save-call _ (s .result) (s .ensures) (n .0) (n .1)
 
 pub sts-save-spec : {M : Type 1} → statement M
-sts-save-spec = tie.close (tie.spec save-file-requires give-number-requires same-length returns)
+sts-save-spec = tie.close (tie.spec save-file-requires give-length-requires same-length returns)
