@@ -44,8 +44,8 @@
  * the longest table within two seconds. So shorter columns are quicker as long as
  * they suffice, and where the moments in between are not needed one sts_run is
  * quicker than as many steps, since it reads and checks once: for a carry chain of
- * 129 steps about ten times. To read or to save a cell takes about 0.01 ms at most.
- * docs/BENCHMARKS.md has figures.
+ * 129 steps about ten times. To read or to save a cell takes about 0.01 ms at most, to
+ * get a small one less. docs/BENCHMARKS.md has figures.
  */
 #ifndef STS_H
 #define STS_H
@@ -78,8 +78,8 @@ enum sts_answer {
     /* A lent length is out of its range or too short for what is written, or columns
        differ in length. */
     STS_BUFFER = 8,
-    /* There is no such node, letter, pattern or entry, there are too many letters,
-       or a function takes other numbers than 0 and 1 where it may not. */
+    /* There is no such node, letter, pattern, entry or place, there are too many
+       letters, or a function takes other numbers than 0 and 1 where it may not. */
     STS_QUESTION = 9,
     /* The run is finished: nothing pends and nothing is scheduled. */
     STS_FINISHED = 10
@@ -164,7 +164,7 @@ uint32_t sts_read(const uint8_t *file, size_t file_length,
  *
  * Returns STS_OK if the file is a legal cell that fits into out. Else it returns the
  * first of these that applies, and out and length are unchanged. Note that STS_BUFFER
- * comes last here, unlike in the other calls:
+ * comes last here and in sts_small, unlike in the other calls:
  *
  *   STS_LENGTH   the file has fewer than 16 bytes
  *   STS_HEADER   the header is wrong
@@ -177,6 +177,43 @@ uint32_t sts_read(const uint8_t *file, size_t file_length,
 uint32_t sts_save(const uint8_t *file, size_t file_length,
                   uint8_t *out, size_t out_length,
                   uint32_t *length);
+
+/* How many small cells there are. */
+#define STS_SMALL_CELLS 9312
+
+/* The most bytes of a small cell's file, 80. */
+#define STS_SMALL_BYTES (STS_RECORD_BYTES * (1 + 2 + 2))
+
+/*
+ * Gives one of the small cells, in its saved form. These are all legal cells that have
+ * an input, an inner node of 1 fF, and one transistor or two, each of 1 ohm. Node 2 is
+ * the input and starts as letter 0, the only letter; node 3 is the inner node and
+ * starts low. The horizon is 10 ps, and nothing is scheduled.
+ *
+ * They stand in a list, each of them once. The 96 cells of one transistor come first,
+ * then those of two, by their first transistor and then by their second. Transistors
+ * are compared by type, n before p, then by gate, first end and second end, each a
+ * node number from 0 to 3. The two ends of a transistor differ, and the other way
+ * round they make another cell; the two transistors of a cell may be equal.
+ *
+ *   place            the cell's place in the list, from 0; any number
+ *   out, out_length  receives the file at its front; any length. It has 64 bytes with
+ *                    one transistor and 80 with two, so STS_SMALL_BYTES bytes are
+ *                    always enough. A longer buffer is fine: its bytes past the file
+ *                    keep their content
+ *   length           receives the length of the file in bytes: not null and aligned
+ *
+ * Out and length do not overlap.
+ *
+ * Returns STS_OK if there is such a place and its file fits into out. Else it returns
+ * the first of these that applies, and out and length are unchanged:
+ *
+ *   STS_QUESTION  place is STS_SMALL_CELLS or more
+ *   STS_BUFFER    out_length is less than the length of the file
+ */
+uint32_t sts_small(uint32_t place,
+                   uint8_t *out, size_t out_length,
+                   uint32_t *length);
 
 /*
  * Function tables.

@@ -357,6 +357,106 @@ static void check_save_refusals(void)
     check_save_refused(file, sizeof file, STS_CHAIN, "sts_save refuses 3 before 4");
 }
 
+/* The first small cell: an n from ground to supply, gated by ground. */
+static const uint8_t first_small[64] = {
+    2, 1, 0, 1, 10, 0, 0, 0, 1, 0, 3, 0, 0, 0, 0, 0,
+    1, 0, 2, 0, 1,  2, 0, 0, 0, 0, 0, 0, 0, 0, 0, 0,
+    1, 0, 0, 0, 0,  0, 1, 0, 0, 0, 0, 0, 0, 0, 0, 0,
+    2, 0, 0, 0, 0,  0, 0, 1, 1, 0, 0, 0, 0, 0, 0, 0,
+};
+
+/* The last one: two p from the inner node to the input, gated by the inner node. */
+static const uint8_t last_small[80] = {
+    2, 2, 0, 1, 10, 0, 0, 0, 1, 0, 3, 0, 0, 0, 0, 0,
+    1, 0, 2, 0, 1,  2, 0, 0, 0, 0, 0, 0, 0, 0, 0, 0,
+    1, 0, 0, 0, 0,  0, 1, 0, 0, 0, 0, 0, 0, 0, 0, 0,
+    2, 0, 4, 0, 1,  3, 3, 2, 1, 0, 0, 0, 0, 0, 0, 0,
+    2, 0, 0, 0, 1,  3, 3, 2, 1, 0, 0, 0, 0, 0, 0, 0,
+};
+
+/* Gets the small cell at a place, in a buffer of this length. */
+static uint32_t small_into(uint32_t place, size_t out_length)
+{
+    fill_buffer(&buffer);
+    return sts_small(place, buffer.out, out_length, &buffer.length[1]);
+}
+
+static void check_small_at(uint32_t place, const uint8_t *file, size_t length)
+{
+    check(small_into(place, length) == STS_OK && buffer_has(file, length),
+          "sts_small gives a cell in just enough bytes");
+    check(small_into(place, sizeof buffer.out) == STS_OK && buffer_has(file, length),
+          "sts_small keeps the bytes past the file");
+    check(small_into(place, length - 1) == STS_BUFFER && buffer_is_kept(),
+          "sts_small refuses a byte less with 8");
+    check(small_into(place, 0) == STS_BUFFER && buffer_is_kept(),
+          "sts_small refuses no bytes with 8");
+}
+
+/* Places past the last, one of them a place in its lower 16 bits. */
+static void check_small_past(void)
+{
+    static const uint32_t places[4] = { STS_SMALL_CELLS, STS_SMALL_CELLS + 1, 65536, UINT32_MAX };
+    static const size_t rooms[4] = { sizeof buffer.out, STS_SMALL_BYTES, 63, 0 };
+    int i, j;
+
+    for (i = 0; i < 4; i++)
+        for (j = 0; j < 4; j++)
+            check(small_into(places[i], rooms[j]) == STS_QUESTION && buffer_is_kept(),
+                  "sts_small refuses a place past the last with 9, before 8");
+}
+
+/* One small cell comes before another in the list: it has fewer transistors, or as many
+   and the first type, gate or end that differs is less. */
+static int comes_before(const uint8_t *one, const uint8_t *other)
+{
+    int first = memcmp(one + 48 + 4, other + 48 + 4, 4);
+
+    if (one[1] != other[1])
+        return one[1] < other[1];
+    if (first != 0 || one[1] == 1)
+        return first < 0;
+    return memcmp(one + 64 + 4, other + 64 + 4, 4) < 0;
+}
+
+/* A cell has what all small cells have: the header, the nodes, transistors of 1 ohm. */
+static int has_the_rest(const uint8_t *file)
+{
+    return file[0] == 2 && memcmp(file + 2, first_small + 2, 46) == 0 &&
+           memcmp(file + 48 + 8, first_small + 48 + 8, 8) == 0 &&
+           (file[1] == 1 || memcmp(file + 64 + 8, last_small + 64 + 8, 8) == 0);
+}
+
+/* All places: legal cells, saved as they are and in their order. They are as many as there
+   are such cells, so none is left out. */
+static void check_small_list(void)
+{
+    uint8_t file[STS_SMALL_BYTES], before[STS_SMALL_BYTES];
+    uint32_t header[STS_HEADER_LENGTH], length = 0, place;
+    int answered = 1, legal = 1, saved = 1, rise = 1;
+
+    for (place = 0; place < STS_SMALL_CELLS; place++) {
+        memset(file, 0xab, sizeof file);
+        answered &= sts_small(place, file, sizeof file, &length) == STS_OK;
+        legal &= sts_read(file, length, header, STS_HEADER_LENGTH) == STS_OK && has_the_rest(file);
+        saved &= save_into(file, length, sizeof buffer.out) == STS_OK && buffer_has(file, length);
+        rise &= place == 0 || comes_before(before, file);
+        memcpy(before, file, sizeof file);
+    }
+    check(answered, "sts_small gives every cell of the list in STS_SMALL_BYTES bytes");
+    check(legal, "sts_read reads every small cell, with what all have");
+    check(saved, "sts_save keeps every small cell as it is");
+    check(rise, "sts_small gives the cells in their order");
+}
+
+static void check_small(void)
+{
+    check_small_at(0, first_small, sizeof first_small);
+    check_small_at(STS_SMALL_CELLS - 1, last_small, sizeof last_small);
+    check_small_past();
+    check_small_list();
+}
+
 /*
  * A function table in memory, with more room in each column than is lent.
  */
@@ -1323,6 +1423,7 @@ int main(void)
     check_save_without_entries();
     check_save_longest();
     check_save_refusals();
+    check_small();
     check_fresh();
     check_choose();
     check_count();

@@ -4,6 +4,7 @@
 //! The modules here hold the implementation, the makers of cases and the calls
 //! into the tool; the comparisons themselves are the files of `tests/`.
 
+pub mod buffer;
 pub mod cell_file;
 pub mod designs;
 pub mod draft;
@@ -18,6 +19,7 @@ pub mod saved;
 #[cfg(feature = "editor")]
 pub mod side_by_side;
 pub mod simulator;
+pub mod small;
 pub mod source;
 #[cfg(feature = "editor")]
 pub mod sts;

@@ -1,5 +1,7 @@
 //! Runs the tool's programs and finds the repository's files.
 
+use crate::refusal::Refusal;
+use crate::replay::hex;
 use std::ffi::OsStr;
 use std::fs;
 use std::io::{self, Write};
@@ -37,6 +39,27 @@ pub struct Written<T = String> {
     pub errors: String,
 }
 
+impl Written<Vec<u8>> {
+    /// What a program writes that answers with a file: the file, or the refusal's line
+    /// to standard error and nothing else.
+    pub fn of(answer: Result<Vec<u8>, Refusal>) -> Self {
+        match answer {
+            Ok(output) => Written {
+                output,
+                errors: String::new(),
+            },
+            Err(refusal) => Written {
+                output: Vec::new(),
+                errors: format!("{refusal}\n"),
+            },
+        }
+    }
+
+    fn told(&self) -> String {
+        format!("{} and {:?}", hex(&self.output), self.errors)
+    }
+}
+
 /// Runs one of the tool's programs on this input and gives what it printed. An
 /// error tells why it could not be run or how it broke off.
 pub fn run(name: &str, input: &[u8]) -> Result<String, String> {
@@ -50,7 +73,23 @@ pub fn run_with(name: &str, arguments: &[&str], input: &[u8]) -> Result<Written,
     Ok(Written { output, errors })
 }
 
-/// The same where standard output is no text.
+/// Runs a program whose output is no text; an error tells what it wrote instead of
+/// what was expected.
+pub fn compare(
+    name: &str,
+    arguments: &[&str],
+    input: &[u8],
+    expected: &Written<Vec<u8>>,
+) -> Result<(), String> {
+    let written = run_bytes(name, arguments, input)?;
+    if written == *expected {
+        return Ok(());
+    }
+    let [is, should] = [&written, expected].map(Written::told);
+    Err(format!("wrote {is}, expected {should}"))
+}
+
+/// The same as [`run_with`] where standard output is no text.
 pub fn run_bytes(name: &str, arguments: &[&str], input: &[u8]) -> Result<Written<Vec<u8>>, String> {
     let path = in_repository("target/bin").join(name);
     let told = |error: io::Error| format!("{}: {error}", path.display());

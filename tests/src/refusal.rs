@@ -21,8 +21,8 @@ pub enum Refusal {
     Unsound = 7,
     /// A lent length is out of range, or columns differ in length.
     Buffer = 8,
-    /// There is no such node, letter, pattern or entry, there are too many letters,
-    /// or a function is not 0 or 1 everywhere and has to be.
+    /// There is no such node, letter, pattern, entry or place, there are too many
+    /// letters, or a function is not 0 or 1 everywhere and has to be.
     Question = 9,
     /// Nothing pends and nothing is scheduled.
     Finished = 10,

@@ -29,7 +29,11 @@ pub fn of_file(file: &[u8]) -> Result<Vec<u8>, Refusal> {
 /// The same where the saved form has to fit into so many bytes. That is looked at
 /// last.
 pub fn in_buffer(file: &[u8], length: usize) -> Result<Vec<u8>, Refusal> {
-    let saved = of_file(file)?;
+    fitting(of_file(file)?, length)
+}
+
+/// A saved form that has to fit into so many bytes.
+pub fn fitting(saved: Vec<u8>, length: usize) -> Result<Vec<u8>, Refusal> {
     if length < saved.len() {
         return Err(Refusal::Buffer);
     }

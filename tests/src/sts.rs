@@ -48,6 +48,8 @@ mod raw {
             length: *mut u32,
         ) -> u32;
 
+        pub fn sts_small(place: u32, out: *mut u8, out_length: usize, length: *mut u32) -> u32;
+
         pub fn sts_fresh(
             letter: *mut u32,
             letter_length: usize,
@@ -152,6 +154,14 @@ pub fn save(file: &[u8], out: &mut [u8], length: &mut u32) -> u32 {
             length,
         )
     }
+}
+
+/// Writes the small cell at a place of their list to the front of `out`, and its
+/// length to `length`.
+pub fn small(place: u32, out: &mut [u8], length: &mut u32) -> u32 {
+    // SAFETY: the pointers are valid for their lengths, and the borrows do not
+    // overlap.
+    unsafe { raw::sts_small(place, out.as_mut_ptr(), out.len(), length) }
 }
 
 /// Makes the three columns a fresh table.

@@ -1,5 +1,6 @@
 //! The call `sts_save` against the second implementation.
 
+use comparison::buffer::{self, MARGIN};
 use comparison::cell_file::{
     parse, Cell, Channel, Layout, Node, Role, Source, Transistor, ENTRIES, NODES, RECORD,
     TRANSISTORS,
@@ -17,76 +18,11 @@ use comparison::vectors::{self, CELLS};
 /// The most bytes of a cell file.
 const MOST: usize = RECORD * (1 + *NODES.end() + *TRANSISTORS.end() + *ENTRIES.end()) as usize;
 
-/// Bytes before and after the lent buffer, which no call may touch.
-const MARGIN: usize = 16;
-
-/// A buffer between its margins, and the number that receives the length.
-#[derive(Clone, Debug)]
-struct Lent {
-    bytes: Vec<u8>,
-    length: u32,
-}
-
-impl Lent {
-    /// A buffer of this length, all of it with random content.
-    fn draw(random: &mut Random, length: usize) -> Lent {
-        let whole = MARGIN + length + MARGIN;
-        let words = std::iter::repeat_with(|| random.bits().to_le_bytes());
-        let mut bytes: Vec<u8> = words.take(whole.div_ceil(8)).flatten().collect();
-        bytes.truncate(whole);
-        Lent {
-            bytes,
-            length: random.word(),
-        }
-    }
-
-    /// Saves a file into it.
-    fn save(&mut self, file: &[u8]) -> u32 {
-        let end = self.bytes.len() - MARGIN;
-        sts::save(file, &mut self.bytes[MARGIN..end], &mut self.length)
-    }
-
-    /// What an answer leaves: the saved bytes at the front, and their count.
-    fn hold(&mut self, saved: &[u8]) {
-        self.bytes[MARGIN..MARGIN + saved.len()].copy_from_slice(saved);
-        self.length = saved.len() as u32;
-    }
-
-    /// Where it is not as expected.
-    fn difference(&self, expected: &Lent) -> Result<(), String> {
-        if self.length != expected.length {
-            let (is, should) = (self.length, expected.length);
-            return Err(format!("the length is {is}, expected {should}"));
-        }
-        let mut pairs = self.bytes.iter().zip(&expected.bytes);
-        let Some(at) = pairs.position(|(is, should)| is != should) else {
-            return Ok(());
-        };
-        let (is, should) = (self.bytes[at], expected.bytes[at]);
-        let place = at as isize - MARGIN as isize;
-        Err(format!("byte {place} is {is}, expected {should}"))
-    }
-}
-
 /// Saves a file both ways into a buffer of this length; an error tells how the
 /// two differ.
 fn compare(random: &mut Random, file: &[u8], length: usize) -> Result<u32, String> {
-    let mut expected = Lent::draw(random, length);
-    let mut lent = expected.clone();
-    let answer = lent.save(file);
-    let number = match saved::in_buffer(file, length) {
-        Ok(saved) => {
-            expected.hold(&saved);
-            0
-        }
-        Err(refusal) => refusal.number(),
-    };
-    let told = |why| format!("in {length} bytes {why}");
-    if answer != number {
-        return Err(told(format!("answered {answer}, expected {number}")));
-    }
-    lent.difference(&expected).map_err(told)?;
-    Ok(answer)
+    let save = |out: &mut [u8], saved: &mut u32| sts::save(file, out, saved);
+    buffer::compare(random, length, save, saved::in_buffer(file, length))
 }
 
 /// The bytes that the call saves of a file that is a cell.

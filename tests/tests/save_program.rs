@@ -1,46 +1,19 @@
 //! The program `save` against the second implementation's saved form.
 
-use comparison::cell_file::parse;
 use comparison::generate::legal;
 use comparison::program::{self, Written};
 use comparison::random::Random;
-use comparison::refusal::Refusal;
 use comparison::replay::{hex, Cases};
 use comparison::saved;
 use comparison::tally::Tally;
 use comparison::vectors;
 
-/// What the program is to write for a file: its saved form, or a refusal's line to
-/// standard error and nothing else.
-fn expected(file: &[u8]) -> Written<Vec<u8>> {
-    match saved::of_file(file) {
-        Ok(output) => Written {
-            output,
-            errors: String::new(),
-        },
-        Err(refusal) => Written {
-            output: Vec::new(),
-            errors: format!("{refusal}\n"),
-        },
-    }
-}
-
 /// Runs the program on a file; an error tells what it wrote instead.
 fn compare(file: &[u8]) -> Result<u32, String> {
-    let written = program::run_bytes("save", &[], file)?;
-    let expected = expected(file);
-    if written != expected {
-        let told = |written: Written<Vec<u8>>| {
-            let Written { output, errors } = written;
-            format!("{} and {errors:?}", hex(&output))
-        };
-        return Err(format!(
-            "wrote {}, expected {}",
-            told(written),
-            told(expected)
-        ));
-    }
-    Ok(parse(file).map_or_else(Refusal::number, |_| 0))
+    let answer = saved::of_file(file);
+    let number = answer.as_ref().map_or_else(|why| why.number(), |_| 0);
+    program::compare("save", &[], file, &Written::of(answer))?;
+    Ok(number)
 }
 
 /// Files of every making.
@@ -65,7 +38,8 @@ fn legal_cells() {
     for round in 0..200 {
         let entries = random.spread(0, 64);
         let file = legal::layout(&mut random, entries).file;
-        for file in [expected(&file).output, file] {
+        let saved = saved::of_file(&file).expect("a legal file");
+        for file in [saved, file] {
             let answer = compare(&file);
             let answer =
                 answer.unwrap_or_else(|why| panic!("{why}: round {round}, {}", hex(&file)));
@@ -94,12 +68,8 @@ fn kept_cells() {
         compare(&vector.file).unwrap_or_else(|why| panic!("{why}: {name}"));
     }
     for sample in vectors::samples() {
-        let name = sample.path.display();
-        let written = program::run_bytes("save", &[], &sample.file);
-        let same = Written {
-            output: sample.file.clone(),
-            errors: String::new(),
-        };
-        assert_eq!(written, Ok(same), "{name}");
+        let same = Written::of(Ok(sample.file.clone()));
+        let compared = program::compare("save", &[], &sample.file, &same);
+        compared.unwrap_or_else(|why| panic!("{why}: {}", sample.path.display()));
     }
 }
