@@ -7,7 +7,7 @@ use Prim.Native.Nat.{ℕ, _<_, _≤_}
 use native.Mathlib.Omega.{arith}
 use lib.ListN.{length}
 use lib.Dec.{ltb}
-use borrow.Author.Tests.{lt-ltb, le-ltb, ltb-true, ltb-false}
+use borrow.Author.Tests.{lt-ltb, le-ltb}
 use Rattle.refusal.specs.declared.Refusal.{Refusal}
 use Rattle.refusal.specs.declared.Refusal.the-variants.{Full, Unsound, Finished}
 use Rattle.refusal.specs.declared.Reply.{Reply}
@@ -16,13 +16,17 @@ use Rattle.refusal.specs.Answer.{Answer, refused, answered, check}
 use Rattle.lists.proofs.Cases.{bool-cases, and-right, true-false}
 use Rattle.format.specs.Circuit.{Circuit}
 use Rattle.diagram.specs.Table.{Table, never}
-use Rattle.diagram.specs.Call.{Columns, lengthsLegal, columnsSound, tableOf, columnsOf}
-use Rattle.diagram.proofs.Columns.{columns-path}
+use Rattle.diagram.specs.Call.{columns, Columns, lengthsLegal, columnsSound, columnsOf}
+use Rattle.diagram.specs.Held.{held}
+use Rattle.diagram.proofs.Columns.{held-columns, columns-path}
 use Rattle.rules.specs.Run.{Moment, startMoment, timeAfter, stepMoment, fitting, runMoment, runSound}
 use Rattle.rules.specs.Call.{workingLegal, momentGiven, startCall, stepCall, runCall}
 use Rattle.rules.proofs.Moment.{time-never}
-use Rattle.rules.proofs.RunSteps.{fitting-fits, fitting-full}
-use Rattle.table.specs.Holds.{columns, Holds, Kept, Judged, zeroFrom}
+use Rattle.rules.proofs.Admitted.{fitting-fits, fitting-full}
+use Rattle.table.specs.declared.Stop.{Stop}
+use Rattle.table.specs.Stop.{stopped}
+use Rattle.table.specs.Holds.{Holds, Kept, Judged, zeroFrom}
+use Rattle.table.proofs.Stops.{stop-over, stop-fits}
 use Rattle.table.proofs.Clearing.{kept-restored}
 use Rattle.functions.specs.Open.{Open}
 use Rattle.functions.proofs.Carry.{judged-open}
@@ -38,12 +42,12 @@ use Rattle.advance.specs.Went.{WentAs}
 use Rattle.advance.specs.Reached.{Together, Left, Reached, Closed}
 
 -- a start or a step, as a task leaves it
-pub next-reached : {t : Table} {m : Moment} {l w h ix : List ℕ} {full : Bool} {r : Run} (size : ℕ) → length l ≡ size → NextAs t m l w h ix full r
-    → Reached t (fitting size m) l w h ix full r
-next-reached {t} {m} {l} {w} {h} {ix} {full} {r} size long n = record {
-  over = λ e. let o : length l < length (m .table) = ltb-true (length l) (length (m .table)) (sym (n .full-is) ∙ e) in fitting-full size m (omega arith);
+pub next-reached : {t : Table} {m : Moment} {l w h ix : List ℕ} {stop : Stop} {r : Run} (size : ℕ) → length l ≡ size → NextAs t m l w h ix stop r
+    → Reached t (fitting size m) l w h ix stop r
+next-reached {t} {m} {l} {w} {h} {ix} {stop} {r} size long n = record {
+  over = λ e. let o : length l < length (m .table) = stop-over (length l) (length (m .table)) (n .stop-is) e in fitting-full size m (omega arith);
   fits = λ e.
-      let o : length (m .table) ≤ length l = ltb-false (length l) (length (m .table)) (sym (n .full-is) ∙ e) in
+      let o : length (m .table) ≤ length l = stop-fits (length l) (length (m .table)) (n .stop-is) e in
       record { moment = m; is = fitting-fits size m (omega arith); run-is = n .run-is e; holds = n .holds e };
   kept = n .kept;
 }
@@ -54,39 +58,39 @@ pub went-refused : {table : Columns} {r r′ : Run} {answer : Answer Moment} {re
 went-refused why e x = rw e record { reply-is = x .0; run-is = x .1; table-is = refl }
 
 -- what was reached is left, or cleared again
-pub went-closed : {l w h ix l1 w1 h1 ix1 l2 w2 h2 : List ℕ} {t : Table} {used : ℕ} {r next r′ : Run} {call answer : Answer Moment} {full : Bool} {reply : Reply}
-    → Holds l w h ix t used → length l1 ≡ length l → call ≡ answer → Reached t answer l1 w1 h1 ix1 full next → Closed l1 w1 h1 l2 w2 h2 used r full next reply r′
+pub went-closed : {l w h ix l1 w1 h1 ix1 l2 w2 h2 : List ℕ} {t : Table} {used : ℕ} {r next r′ : Run} {call answer : Answer Moment} {stop : Stop} {reply : Reply}
+    → Holds l w h ix t used → length l1 ≡ length l → call ≡ answer → Reached t answer l1 w1 h1 ix1 stop next → Closed l1 w1 h1 l2 w2 h2 used r stop next reply r′
     → WentAs (columns l w h) (columns l2 w2 h2) r call reply r′
-went-closed {l} {w} {h} {ix} {l1} {w1} {h1} {ix1} {l2} {w2} {h2} {t} {used} {r} {next} {r′} {call} {answer} {full} {reply} held long same o d =
+went-closed {l} {w} {h} {ix} {l1} {w1} {h1} {ix1} {l2} {w2} {h2} {t} {used} {r} {next} {r′} {call} {answer} {stop} {reply} held long same o d =
     ⊎-elim
-    (λ (e : full ≡ true).
+    (λ (e : stopped stop ≡ true).
     let restored : columns l2 w2 h2 ≡ columns l w h = d .cleared e ∙ kept-restored held (subst (λ (n : ℕ). Kept l1 w1 h1 n t) long (o .kept)) in
     rw (same ∙ o .over e, restored) record { reply-is = d .refused e .0; run-is = d .refused e .1; table-is = refl })
-    (λ (e : full ≡ false).
+    (λ (e : stopped stop ≡ false).
     let left : Left answer l1 w1 h1 ix1 next = o .fits e in
     rw (same ∙ left .is)
     record {
       reply-is = d .done e .0;
       run-is = d .done e .1 ∙ left .run-is;
-      table-is = d .kept e ∙ left .holds .is ∙ ap (λ (n : ℕ). columnsOf n (left .moment .table)) long;
+      table-is = d .kept e ∙ held-columns _ _ (left .holds .is) ∙ ap (λ (n : ℕ). columnsOf n (left .moment .table)) long;
     })
-    (bool-cases full)
+    (bool-cases (stopped stop))
 
 -- the end of a task, with and without room
-pub closed-full : {l w h l′ w′ h′ : List ℕ} {used : ℕ} {r next r′ : Run} {full : Bool} {reply : Reply} → full ≡ true
+pub closed-full : {l w h l′ w′ h′ : List ℕ} {used : ℕ} {r next r′ : Run} {stop : Stop} {reply : Reply} → stopped stop ≡ true
     → (l′ ≡ zeroFrom used l) × (w′ ≡ zeroFrom used w) × (h′ ≡ zeroFrom used h) → (reply ≡ Refused Full) × (r′ ≡ r)
-    → Closed l w h l′ w′ h′ used r full next reply r′
-closed-full {full = full} e z x = record {
+    → Closed l w h l′ w′ h′ used r stop next reply r′
+closed-full {stop = stop} e z x = record {
   cleared = λ _. columns-path _ _ (z .0) (z .1) (z .2);
   refused = λ _. x;
-  kept = λ room. true-false full e room;
-  done = λ room. true-false full e room;
+  kept = λ room. true-false (stopped stop) e room;
+  done = λ room. true-false (stopped stop) e room;
 }
 
-pub closed-done : {l w h : List ℕ} {used : ℕ} {r next : Run} {full : Bool} → full ≡ false → Closed l w h l w h used r full next Done next
-closed-done {full = full} e = record {
-  cleared = λ over. true-false full over e;
-  refused = λ over. true-false full over e;
+pub closed-done : {l w h : List ℕ} {used : ℕ} {r next : Run} {stop : Stop} → stopped stop ≡ false → Closed l w h l w h used r stop next Done next
+closed-done {stop = stop} e = record {
+  cleared = λ over. true-false (stopped stop) over e;
+  refused = λ over. true-false (stopped stop) over e;
   kept = λ _. refl;
   done = λ _. (refl, refl);
 }
@@ -96,13 +100,13 @@ module _ {net l w h ix : List ℕ} {r : Run} {x : Bool} (laid : Laid (netCircuit
   pub together-table : x ≡ false → Together net l w h ix r false
   together-table e = record { is = rw (letters-at net, ← j .is, e); opened = λ o. true-false false o refl }
 
-  pub together-run : x ≡ true → (y : Bool) → y ≡ runSound (netCircuit net) (tableOf (columns l w h) (r .used)) (runOf (netCircuit net) r) → Together net l w h ix r y
+  pub together-run : x ≡ true → (y : Bool) → y ≡ runSound (netCircuit net) (held l w h (r .used)) (runOf (netCircuit net) r) → Together net l w h ix r y
   together-run e y o = record { is = o ∙ rw (letters-at net, ← j .is, e); opened = λ _. judged-open j e (laid .within .letters) }
 
 pub together-sound : {net l w h ix : List ℕ} {r : Run} {x : Bool} → Together net l w h ix r x → x ≡ true
-    → runSound (netCircuit net) (tableOf (columns l w h) (r .used)) (runOf (netCircuit net) r) ≡ true
+    → runSound (netCircuit net) (held l w h (r .used)) (runOf (netCircuit net) r) ≡ true
 together-sound {net} {l} {w} {h} {ix} {r} t e =
-    and-right (columnsSound (netCircuit net .letters) (columns l w h) (r .used)) (runSound (netCircuit net) (tableOf (columns l w h) (r .used)) (runOf (netCircuit net) r)) (sym (t .is) ∙ e)
+    and-right (columnsSound (netCircuit net .letters) (columns l w h) (r .used)) (runSound (netCircuit net) (held l w h (r .used)) (runOf (netCircuit net) r)) (sym (t .is) ∙ e)
 
 -- the calls on a cell that is answered, with columns of legal lengths
 module _ (net l w h : List ℕ) (r : Run) (working : Columns) (legal : lengthsLegal (columns l w h) ≡ true) (wide : workingLegal working ≡ true) where
@@ -117,7 +121,7 @@ module _ (net l w h : List ℕ) (r : Run) (working : Columns) (legal : lengthsLe
     unfolding startCall
     start-unsound e = rw (legal, wide, letters-at net, ← j .is, e)
 
-    pub start-next : x ≡ true → taskCall (answered (netCircuit net)) (Start used) (columns l w h) r working ≡ fitting (length l) (startMoment (netCircuit net) (tableOf (columns l w h) used))
+    pub start-next : x ≡ true → taskCall (answered (netCircuit net)) (Start used) (columns l w h) r working ≡ fitting (length l) (startMoment (netCircuit net) (held l w h used))
     unfolding startCall
     start-next e = rw (legal, wide, letters-at net, ← j .is, e)
 

@@ -2,25 +2,31 @@
 use mathlib.Core.Path.{_≡_, refl, sym, _∙_, ap, subst}
 use mathlib.Core.Logic.{inl, inr, ⊎-elim}
 use mathlib.Core.List.{List}
-use mathlib.Core.Bool.{Bool, true, false, not, _&&_}
+use mathlib.Core.Bool.{true, false, not, _&&_}
 use Prim.Native.Nat.{ℕ, _<_, _≤_}
 use native.Mathlib.Omega.{arith}
 use lib.ListN.{length}
 use lib.Dec.{leb, eqb}
-use borrow.Author.Tests.{ltb-true, ltb-false, leb-true, leb-false, eqb-false, ne-eqb, not-true}
+use borrow.Author.Tests.{leb-true, leb-false, eqb-false, ne-eqb, not-true}
+use Rattle.refusal.specs.declared.Refusal.the-variants.{Full}
 use Rattle.refusal.specs.Answer.{Answer}
 use Rattle.lists.proofs.Cases.{eq-or-ne, and-left, and-right, true-false}
 use Rattle.format.specs.Circuit.{Circuit}
 use Rattle.diagram.specs.Table.{never}
-use Rattle.diagram.specs.Call.{mostEntries, tableOf}
+use Rattle.diagram.specs.Call.{columns}
+use Rattle.diagram.specs.Held.{mostEntries, held}
 use Rattle.diagram.proofs.Sound.{Sound}
 use Rattle.diagram.proofs.Add.{Extends, extends-refl, extends-trans}
 use Rattle.rules.specs.Run as defined
-use Rattle.rules.specs.Run.{Moment, timeAfter, stepMoment, fitting, continued, runSound}
+use Rattle.rules.specs.Run.{Moment, timeAfter, stepMoment, continued, runSound}
 use Rattle.rules.specs.Call.{momentGiven}
 use Rattle.rules.proofs.Moment.{RunSound, SoundMoment, run-record, sound-tests, tests-sound, time-never, time-within, step-time, step-sound, step-extends}
-use Rattle.rules.proofs.RunSteps.{Rests, Takes, ran, fitting-fits, fitting-full, run-rests, run-next}
-use Rattle.table.specs.Holds.{columns}
+use Rattle.rules.proofs.Admitted.{Admitted, Barred, crowded, admitting, admitted-answer, barred-answer}
+use Rattle.rules.proofs.RunSteps.{Rests, Takes, ran, run-rests, run-next}
+use Rattle.table.specs.declared.Stop.{Stop}
+use Rattle.table.specs.declared.Stop.the-variants.{Going as NotStopped}
+use Rattle.table.specs.Stop.{stopped}
+use Rattle.table.proofs.Stops.{stop-over, stop-fits}
 use Rattle.table.proofs.Outcomes.{holds-table, holds-kept, kept-extends}
 use Rattle.functions.specs.Open.{Open}
 use Rattle.functions.proofs.Carry.{open-next}
@@ -42,13 +48,13 @@ momentIn net l w h r = momentGiven (columns l w h) (runOf (netCircuit net) r)
 -- what is required of a moment, to step from it
 pub record Standing (net l w h ix : List ℕ) (r : Run) : Type 0 where
   pub opened : Open (at net lettersPlace) l w h ix (r .used)
-  pub sound : runSound (netCircuit net) (tableOf (columns l w h) (r .used)) (runOf (netCircuit net) r) ≡ true
+  pub sound : runSound (netCircuit net) (held l w h (r .used)) (runOf (netCircuit net) r) ≡ true
 
 -- the next time, and a column with the least number of every entry
 pub record Timed (net l w h : List ℕ) (r : Run) (time : ℕ) (least : List ℕ) : Type 0 where
   pub time-is : time ≡ timeAfter (netCircuit net) (momentGiven (columns l w h) (runOf (netCircuit net) r))
   pub least-long : length least ≡ mostEntries
-  pub leasts : Leasts (at net lettersPlace) (tableOf (columns l w h) (r .used)) (r .used) least
+  pub leasts : Leasts (at net lettersPlace) (held l w h (r .used)) (r .used) least
 
 -- the steps up to now: what is left to run from here is what was asked at first, and no entry was taken away
 pub record Going (net : List ℕ) (until : ℕ) (l₀ w₀ h₀ : List ℕ) (r₀ : Run) (l w h ix : List ℕ) (r : Run) (time : ℕ) (least : List ℕ) : Type 0 where
@@ -56,7 +62,7 @@ pub record Going (net : List ℕ) (until : ℕ) (l₀ w₀ h₀ : List ℕ) (r�
   pub standing : Standing net l w h ix r
   pub whole : r ≡ recordOf (runOf (netCircuit net) r)
   pub timed : Timed net l w h r time least
-  pub kept : Extends (tableOf (columns l₀ w₀ h₀) (r₀ .used)) (tableOf (columns l w h) (r .used))
+  pub kept : Extends (held l₀ w₀ h₀ (r₀ .used)) (held l w h (r .used))
   pub left : ran (netCircuit net) until (length l₀) (momentGiven (columns l₀ w₀ h₀) (runOf (netCircuit net) r₀))
       ≡ ran (netCircuit net) until (length l₀) (momentGiven (columns l w h) (runOf (netCircuit net) r))
 
@@ -75,21 +81,21 @@ module _ {net l w h ix : List ℕ} {r r′ : Run} (s : Standing net l w h ix r) 
 
   tidy-run : runOf (netCircuit net) r′ ≡ runOf (netCircuit net) r
   tidy-run =
-      let k : RunSound (netCircuit net) (tableOf (columns l w h) (r .used)) (runOf (netCircuit net) r) =
-      run-record (netCircuit net) (tableOf (columns l w h) (r .used)) (runOf (netCircuit net) r) (s .sound) in
+      let k : RunSound (netCircuit net) (held l w h (r .used)) (runOf (netCircuit net) r) =
+      run-record (netCircuit net) (held l w h (r .used)) (runOf (netCircuit net) r) (s .sound) in
       ap (runOf (netCircuit net)) e ∙ run-of-record (netCircuit net) (runOf (netCircuit net) r) (k .values-long) (k .changes-long)
 
   pub tidy-standing : Standing net l w h ix r′
-  tidy-standing = record { opened = rw tidy-used (s .opened); sound = subst (λ (x : defined.Run). runSound (netCircuit net) (tableOf (columns l w h) (x .used)) x ≡ true) (sym tidy-run) (s .sound) }
+  tidy-standing = record { opened = rw tidy-used (s .opened); sound = subst (λ (x : defined.Run). runSound (netCircuit net) (held l w h (x .used)) x ≡ true) (sym tidy-run) (s .sound) }
 
   -- so nothing is asked but what was
-  pub tidy-reached : (until size : ℕ) {l1 w1 h1 ix1 : List ℕ} {full : Bool} {next : Run}
-      → Reached (tableOf (columns l w h) (r′ .used)) (ran (netCircuit net) until size (momentGiven (columns l w h) (runOf (netCircuit net) r′))) l1 w1 h1 ix1 full next
-      → Reached (tableOf (columns l w h) (r .used)) (ran (netCircuit net) until size (momentGiven (columns l w h) (runOf (netCircuit net) r))) l1 w1 h1 ix1 full next
-  tidy-reached until size {l1} {w1} {h1} {ix1} {full} {next} x =
+  pub tidy-reached : (until size : ℕ) {l1 w1 h1 ix1 : List ℕ} {stop : Stop} {next : Run}
+      → Reached (held l w h (r′ .used)) (ran (netCircuit net) until size (momentGiven (columns l w h) (runOf (netCircuit net) r′))) l1 w1 h1 ix1 stop next
+      → Reached (held l w h (r .used)) (ran (netCircuit net) until size (momentGiven (columns l w h) (runOf (netCircuit net) r))) l1 w1 h1 ix1 stop next
+  tidy-reached until size {l1} {w1} {h1} {ix1} {stop} {next} x =
       subst
       (λ (y : defined.Run).
-      Reached (tableOf (columns l w h) (y .used)) (ran (netCircuit net) until size (momentGiven (columns l w h) y)) l1 w1 h1 ix1 full next)
+      Reached (held l w h (y .used)) (ran (netCircuit net) until size (momentGiven (columns l w h) y)) l1 w1 h1 ix1 stop next)
       tidy-run
       x
 
@@ -104,14 +110,14 @@ going-start {net} {l} {w} {h} {ix} {least} {r} until s e t = record {
   standing = s;
   whole = e;
   timed = t;
-  kept = extends-refl (tableOf (columns l w h) (r .used));
+  kept = extends-refl (held l w h (r .used));
   left = refl;
 }
 
 -- a step from such a moment leaves one
-module _ {net l w h ix l′ w′ h′ ix′ : List ℕ} {r r′ : Run} {full : Bool} (laid : Laid (netCircuit net) net) (s : Standing net l w h ix r)
-    (n : NextAs (tableOf (columns l w h) (r .used)) (stepMoment (netCircuit net) (momentGiven (columns l w h) (runOf (netCircuit net) r))) l′ w′ h′ ix′ full r′)
-    (more : timeAfter (netCircuit net) (momentGiven (columns l w h) (runOf (netCircuit net) r)) < never) (room : full ≡ false) where
+module _ {net l w h ix l′ w′ h′ ix′ : List ℕ} {r r′ : Run} {stop : Stop} (laid : Laid (netCircuit net) net) (s : Standing net l w h ix r)
+    (n : NextAs (held l w h (r .used)) (stepMoment (netCircuit net) (momentGiven (columns l w h) (runOf (netCircuit net) r))) l′ w′ h′ ix′ stop r′)
+    (more : timeAfter (netCircuit net) (momentGiven (columns l w h) (runOf (netCircuit net) r)) < never) (room : stopped stop ≡ false) where
   abbrev c : Circuit
   c = netCircuit net
 
@@ -124,7 +130,7 @@ module _ {net l w h ix l′ w′ h′ ix′ : List ℕ} {r r′ : Run} {full : B
   run-same : runOf (netCircuit net) r′ ≡ stepMoment (netCircuit net) (momentGiven (columns l w h) (runOf (netCircuit net) r)) .run
   run-same = ap (runOf c) (n .run-is room) ∙ run-of-record c (stepMoment c m .run) (stepped .run .values-long) (stepped .run .changes-long)
 
-  table-same : tableOf (columns l′ w′ h′) (r′ .used) ≡ stepMoment (netCircuit net) (momentGiven (columns l w h) (runOf (netCircuit net) r)) .table
+  table-same : held l′ w′ h′ (r′ .used) ≡ stepMoment (netCircuit net) (momentGiven (columns l w h) (runOf (netCircuit net) r)) .table
   table-same = holds-table (n .holds room)
 
   -- the moment of the step is the one held
@@ -138,15 +144,15 @@ module _ {net l w h ix l′ w′ h′ ix′ : List ℕ} {r r′ : Run} {full : B
   }
 
   -- no entry is taken away
-  pub step-kept : Extends (tableOf (columns l w h) (r .used)) (tableOf (columns l′ w′ h′) (r′ .used))
-  step-kept = subst (Extends (tableOf (columns l w h) (r .used))) (sym table-same) (step-extends (laid .legal) (standing-sound s))
+  pub step-kept : Extends (held l w h (r .used)) (held l′ w′ h′ (r′ .used))
+  step-kept = subst (Extends (held l w h (r .used))) (sym table-same) (step-extends (laid .legal) (standing-sound s))
 
   pub step-more : r .used ≤ r′ .used
   step-more = omega (arith, step-kept .longer, s .opened .holds .long, step-standing .opened .holds .long)
 
   -- so the least numbers in a column are right
-  pub step-leasts : {least : List ℕ} → Leasts (at net lettersPlace) (tableOf (columns l w h) (r .used)) (r .used) least
-      → Leasts (at net lettersPlace) (tableOf (columns l′ w′ h′) (r′ .used)) (r .used) least
+  pub step-leasts : {least : List ℕ} → Leasts (at net lettersPlace) (held l w h (r .used)) (r .used) least
+      → Leasts (at net lettersPlace) (held l′ w′ h′ (r′ .used)) (r .used) least
   step-leasts g =
       leasts-extends g (laid .within .letters) (subst (λ (k : ℕ). Sound k (m .table)) (letters-at net) (standing-sound s .table)) step-kept (omega (arith, s .opened .holds .long))
 
@@ -178,7 +184,7 @@ module _ {net : List ℕ} {until : ℕ} {l₀ w₀ h₀ : List ℕ} {r₀ : Run}
 
   -- no step is left
   pub going-rests : (not (eqb time never) && leb time until) ≡ false
-      → Reached (tableOf (columns l₀ w₀ h₀) (r₀ .used)) (ran (netCircuit net) until (length l₀) (momentGiven (columns l₀ w₀ h₀) (runOf (netCircuit net) r₀))) l w h ix false r
+      → Reached (held l₀ w₀ h₀ (r₀ .used)) (ran (netCircuit net) until (length l₀) (momentGiven (columns l₀ w₀ h₀) (runOf (netCircuit net) r₀))) l w h ix NotStopped r
   going-rests e = record {
     over = λ z. true-false false z refl;
     fits = λ _. record {
@@ -193,29 +199,31 @@ module _ {net : List ℕ} {until : ℕ} {l₀ w₀ h₀ : List ℕ} {r₀ : Run}
   -- a step is left
   module _ (takes : Takes (netCircuit net) until (momentGiven (columns l w h) (runOf (netCircuit net) r))) where
     goes-on : ran (netCircuit net) until (length l₀) (momentGiven (columns l₀ w₀ h₀) (runOf (netCircuit net) r₀))
-        ≡ continued (fitting (length l₀) (stepMoment (netCircuit net) (momentGiven (columns l w h) (runOf (netCircuit net) r)))) (ran (netCircuit net) until (length l₀))
+        ≡ continued (admitting (netCircuit net) (length l₀) (momentGiven (columns l w h) (runOf (netCircuit net) r))) (ran (netCircuit net) until (length l₀))
     goes-on = g .left ∙ run-next (laid .legal) until (length l₀) (standing-sound (g .standing)) takes
 
-    module _ {l′ w′ h′ ix′ : List ℕ} {r′ : Run} {full : Bool} (long : length l′ ≡ length l)
-        (n : NextAs (tableOf (columns l w h) (r .used)) (stepMoment (netCircuit net) (momentGiven (columns l w h) (runOf (netCircuit net) r))) l′ w′ h′ ix′ full r′) where
+    module _ {l′ w′ h′ ix′ : List ℕ} {r′ : Run} {stop : Stop} (long : length l′ ≡ length l)
+        (n : NextAs (held l w h (r .used)) (stepMoment (netCircuit net) (momentGiven (columns l w h) (runOf (netCircuit net) r))) l′ w′ h′ ix′ stop r′) where
       abbrev after : Moment
       after = stepMoment (netCircuit net) (momentGiven (columns l w h) (runOf (netCircuit net) r))
 
       -- that has no room
-      pub going-full : full ≡ true
-          → Reached (tableOf (columns l₀ w₀ h₀) (r₀ .used)) (ran (netCircuit net) until (length l₀) (momentGiven (columns l₀ w₀ h₀) (runOf (netCircuit net) r₀))) l′ w′ h′ ix′ full r′
+      pub going-full : stopped stop ≡ true
+          → Reached (held l₀ w₀ h₀ (r₀ .used)) (ran (netCircuit net) until (length l₀) (momentGiven (columns l₀ w₀ h₀) (runOf (netCircuit net) r₀))) l′ w′ h′ ix′ stop r′
       going-full e =
-          let o : length l′ < length (after .table) = ltb-true (length l′) (length (after .table)) (sym (n .full-is) ∙ e) in
+          let o : length l′ < length (after .table) = stop-over (length l′) (length (after .table)) (n .stop-is) e in
+          let barred : Barred (netCircuit net) (length l₀) (momentIn net l w h r) Full = crowded (omega (arith, g .long)) in
           record {
-            over = λ _. goes-on ∙ ap (λ (a : Answer Moment). continued a (ran (netCircuit net) until (length l₀))) (fitting-full (length l₀) after (omega (arith, g .long)));
-            fits = λ z. true-false full e z;
+            over = λ _. goes-on ∙ ap (λ (a : Answer Moment). continued a (ran (netCircuit net) until (length l₀))) (barred-answer barred);
+            fits = λ z. true-false (stopped stop) e z;
             kept = kept-extends (g .kept) (n .kept);
           }
 
       -- that has room
-      pub going-next : full ≡ false → {time′ : ℕ} {least′ : List ℕ} → Timed net l′ w′ h′ r′ time′ least′ → Going net until l₀ w₀ h₀ r₀ l′ w′ h′ ix′ r′ time′ least′
+      pub going-next : stopped stop ≡ false → {time′ : ℕ} {least′ : List ℕ} → Timed net l′ w′ h′ r′ time′ least′ → Going net until l₀ w₀ h₀ r₀ l′ w′ h′ ix′ r′ time′ least′
       going-next e t =
-          let o : length (after .table) ≤ length l′ = ltb-false (length l′) (length (after .table)) (sym (n .full-is) ∙ e) in
+          let o : length (after .table) ≤ length l′ = stop-fits (length l′) (length (after .table)) (n .stop-is) e in
+          let admitted : Admitted (netCircuit net) (length l₀) (momentIn net l w h r) = record { fits = omega (arith, g .long) } in
           let same : momentIn net l′ w′ h′ r′ ≡ after = moment-same laid (g .standing) n (takes .more) e in
           record {
             long = long ∙ g .long;
@@ -224,6 +232,6 @@ module _ {net : List ℕ} {until : ℕ} {l₀ w₀ h₀ : List ℕ} {r₀ : Run}
             timed = t;
             kept = extends-trans (g .kept) (step-kept laid (g .standing) n (takes .more) e);
             left = goes-on
-                ∙ ap (λ (a : Answer Moment). continued a (ran (netCircuit net) until (length l₀))) (fitting-fits (length l₀) after (omega (arith, g .long)))
+                ∙ ap (λ (a : Answer Moment). continued a (ran (netCircuit net) until (length l₀))) (admitted-answer admitted)
                 ∙ ap (ran (netCircuit net) until (length l₀)) (sym same);
           }

@@ -9,9 +9,12 @@ use Rattle.refusal.specs.declared.Reply.{Reply}
 use Rattle.refusal.specs.declared.Reply.the-variants.{Done, Refused}
 use Rattle.refusal.specs.Answer.{Answer, refused, answered}
 use Rattle.diagram.specs.Table.{Table}
+use Rattle.diagram.specs.Call.{columns}
 use Rattle.rules.specs.Run.{Moment}
 use Rattle.rules.specs.Call.{soundTogether}
-use Rattle.table.specs.Holds.{columns, Holds, Kept, zeroFrom}
+use Rattle.table.specs.declared.Stop.{Stop}
+use Rattle.table.specs.Stop.{stopped}
+use Rattle.table.specs.Holds.{Holds, Kept, zeroFrom}
 use Rattle.functions.specs.Open.{Open}
 use Rattle.net.specs.Net.{lettersPlace, at, netCircuit}
 use Rattle.record.specs.declared.Run.{Run}
@@ -30,15 +33,15 @@ pub record Left (answer : Answer Moment) (l w h ix : List ℕ) (r : Run) : Type 
   pub holds : Holds l w h ix (moment .table) (r .used)
 
 -- what a start, a step or a run of steps in the table t is to leave, and whether there was no room
-pub record Reached (t : Table) (answer : Answer Moment) (l w h ix : List ℕ) (full : Bool) (r : Run) : Type 0 where
-  pub over : full ≡ true → answer ≡ refused Full
-  pub fits : full ≡ false → Left answer l w h ix r
+pub record Reached (t : Table) (answer : Answer Moment) (l w h ix : List ℕ) (stop : Stop) (r : Run) : Type 0 where
+  pub over : stopped stop ≡ true → answer ≡ refused Full
+  pub fits : stopped stop ≡ false → Left answer l w h ix r
   pub kept : Kept l w h (length l) t
 
 -- the end of a task: the columns before and after it, the old used count and run, whether there was no room, the run that was
 -- reached, and what is replied
-pub record Closed (l w h l′ w′ h′ : List ℕ) (used : ℕ) (r : Run) (full : Bool) (next : Run) (reply : Reply) (r′ : Run) : Type 0 where
-  pub cleared : full ≡ true → columns l′ w′ h′ ≡ columns (zeroFrom used l) (zeroFrom used w) (zeroFrom used h)
-  pub refused : full ≡ true → (reply ≡ Refused Full) × (r′ ≡ r)
-  pub kept : full ≡ false → columns l′ w′ h′ ≡ columns l w h
-  pub done : full ≡ false → (reply ≡ Done) × (r′ ≡ next)
+pub record Closed (l w h l′ w′ h′ : List ℕ) (used : ℕ) (r : Run) (stop : Stop) (next : Run) (reply : Reply) (r′ : Run) : Type 0 where
+  pub cleared : stopped stop ≡ true → columns l′ w′ h′ ≡ columns (zeroFrom used l) (zeroFrom used w) (zeroFrom used h)
+  pub refused : stopped stop ≡ true → (reply ≡ Refused Full) × (r′ ≡ r)
+  pub kept : stopped stop ≡ false → columns l′ w′ h′ ≡ columns l w h
+  pub done : stopped stop ≡ false → (reply ≡ Done) × (r′ ≡ next)

@@ -4,6 +4,7 @@ use moment::Next;
 use record::Run;
 use refusal::Refusal;
 use refusal::Reply;
+use table::Stop;
 use table::clear;
 ghost use mathlib.Core.Path.{_≡_};
 ghost use Rattle.refusal.specs.declared.Reply.the-variants.{Refused};
@@ -18,7 +19,7 @@ pub fn refused(why: Refusal, r: Run) -> Went
     }
 }
 
-// Where there was no room, the columns are cleared from the old used count on.
+// The reason becomes the refusal. Where the task stopped, the columns are cleared from the old used count on.
 pub fn closed(
     letter: &mut [u32],
     low: &mut [u32],
@@ -27,15 +28,21 @@ pub fn closed(
     r: Run,
     next: Next,
 ) -> Went
-    ensures { λ x. ⌜ Closed (now (letter .entry)) (now (low .entry)) (now (high .entry)) (now (letter .exit)) (now (low .exit)) (now (high .exit)) used r (next .full) (next .run) (x .reply) (x .run) ⌝ }
+    ensures { λ x. ⌜ Closed (now (letter .entry)) (now (low .entry)) (now (high .entry)) (now (letter .exit)) (now (low .exit)) (now (high .exit)) used r (next .stop) (next .run) (x .reply) (x .run) ⌝ }
 {
-    if next.full {
-        clear(letter, low, high, used);
-        return refused(Refusal::Full, r);
-    }
-    let run = next.run;
-    Went {
-        reply: Reply::Done,
-        run,
+    let why = next.stop;
+    match why {
+        Stop::Going => {
+            let run = next.run;
+            Went {
+                reply: Reply::Done,
+                run,
+            }
+        }
+        // A full table ended the task before every node was looked at: a reason that ranks before 6 is to be looked for here.
+        Stop::Full => {
+            clear(letter, low, high, used);
+            refused(Refusal::Full, r)
+        }
     }
 }

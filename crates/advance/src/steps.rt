@@ -4,13 +4,16 @@ use moment::Next;
 use moment::step;
 use record::Run;
 use record::time_after;
+use table::Stop;
+use table::stopped;
 ghost use mathlib.Core.Path.{_≡_};
 ghost use mathlib.Core.Bool.{true};
 ghost use Prim.Native.Nat.{_≤_};
 ghost use lib.ListN.{length, take};
 ghost use Rattle.lists.specs.Padded.{padded};
-ghost use Rattle.diagram.specs.Call.{tableOf};
-ghost use Rattle.table.specs.Holds.{columns, Sized};
+ghost use Rattle.diagram.specs.Call.{columns};
+ghost use Rattle.diagram.specs.Held.{held};
+ghost use Rattle.table.specs.Holds.{Sized};
 ghost use Rattle.functions.specs.Open.{Open};
 ghost use Rattle.rules.specs.Run.{runMoment, runSound};
 ghost use Rattle.rules.specs.Call.{momentGiven};
@@ -65,8 +68,8 @@ pub fn steps(
     until: u32,
 ) -> Next
     requires { ⌜ Laid (netCircuit (now net)) (now net) × Open (atPlace (now net) lettersPlace) (now letter) (now low) (now high) (now index) (r .used) × Sized (now wletter) (now wlow) (now whigh) (now windex) ⌝ }
-    requires { ⌜ runSound (netCircuit (now net)) (tableOf (columns (now letter) (now low) (now high)) (r .used)) (runOf (netCircuit (now net)) r) ≡ true ⌝ }
-    ensures { λ x. ⌜ Reached (tableOf (columns (now (letter .entry)) (now (low .entry)) (now (high .entry))) (r .used)) (runMoment (netCircuit (now (net .entry)) .horizon .0) (netCircuit (now (net .entry))) until (length (now (letter .entry))) (momentGiven (columns (now (letter .entry)) (now (low .entry)) (now (high .entry))) (runOf (netCircuit (now (net .entry))) r))) (now (letter .exit)) (now (low .exit)) (now (high .exit)) (now (index .exit)) (x .full) (x .run) ⌝ }
+    requires { ⌜ runSound (netCircuit (now net)) (held (now letter) (now low) (now high) (r .used)) (runOf (netCircuit (now net)) r) ≡ true ⌝ }
+    ensures { λ x. ⌜ Reached (held (now (letter .entry)) (now (low .entry)) (now (high .entry)) (r .used)) (runMoment (netCircuit (now (net .entry)) .horizon .0) (netCircuit (now (net .entry))) until (length (now (letter .entry))) (momentGiven (columns (now (letter .entry)) (now (low .entry)) (now (high .entry))) (runOf (netCircuit (now (net .entry))) r))) (now (letter .exit)) (now (low .exit)) (now (high .exit)) (now (index .exit)) (x .stop) (x .run) ⌝ }
 {
     let mut now = tidy(net, r);
     let mut least = [0u32; 65536];
@@ -86,7 +89,8 @@ pub fn steps(
             time,
             &least,
         );
-        if next.full {
+        let why = next.stop;
+        if stopped(why) {
             return next;
         }
         let done = now.used;
@@ -95,7 +99,7 @@ pub fn steps(
         time = time_after(net, letter, low, high, now, &mut least, done);
     }
     Next {
-        full: false,
+        stop: Stop::Going,
         run: now,
     }
 }

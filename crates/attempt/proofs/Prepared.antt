@@ -16,11 +16,11 @@ use Rattle.format.proofs.Legal.{LegalCell}
 use Rattle.diagram.specs.Pattern.{mostLetters, patterns}
 use Rattle.diagram.specs.Table.{Table, numberAt}
 use Rattle.diagram.specs.Store.{store}
+use Rattle.diagram.specs.Held.{held}
 use Rattle.diagram.proofs.Sound.{Sound}
 use Rattle.diagram.proofs.Number.{number-zeroth, number-first}
 use Rattle.diagram.proofs.Store.{store-ext}
 use Rattle.working.specs.Grown.{bit}
-use Rattle.working.specs.Many.{held}
 use Rattle.rules.specs.State.{State, valueAt, isInner}
 use Rattle.rules.specs.Group.{reconsidered}
 use Rattle.rules.specs.Kept.{kept}
@@ -30,11 +30,13 @@ use Rattle.rules.proofs.Label.{all-legal}
 use Rattle.rules.proofs.Matrix as matrix
 use Rattle.net.specs.Net.{at, netCircuit, netGroup}
 use Rattle.net.proofs.Laying.{nodes-length, transistors-length}
-use Rattle.walk.specs.Leaf.{leafState}
+use Rattle.net.specs.Roots.{leafLength, touchedPlace, pendingPlace, rootsLength, allPendingPlace, changePlace}
+use Rattle.plain.specs.Leaf.{leafState}
 use Rattle.prepare.specs.Steps.{Shows, Bits, considered}
 use Rattle.prepare.specs.Roots.{Roots}
 use Rattle.prepare.proofs.Reading.{laid-legal}
-use Rattle.descent.specs.Settle.{leafAt, pendingAfter, settledBy, Calm, isOf}
+use Rattle.plain.specs.Settle.{pendingAfter}
+use Rattle.descent.specs.Settle.{leafAt, settledBy, Calm, isOf}
 use Rattle.descent.specs.Descend.{Inner, Rooted}
 use Rattle.descent.proofs.Channels.{leaf-value, leaf-change}
 use Rattle.descent.proofs.Calm.{leaf-calm}
@@ -91,7 +93,7 @@ module _ {net : List ℕ} {k : ℕ} {t : Table} {before after pending : List ℕ
   few-nodes = i .cell .within .nodes
 
   -- the numbers of the roots at a pattern, by place
-  root-leaf : (p j : ℕ) → j < 90 → getD (leafAt k w out p) j 0 ≡ numberAt k w (getD roots j 0) p
+  root-leaf : (p j : ℕ) → j < leafLength → getD (leafAt k w out p) j 0 ≡ numberAt k w (getD roots j 0) p
   root-leaf p j h = leaf-at k w out p j (omega (arith, o .long)) ∙ ap (λ (e : ℕ). numberAt k w e p) (o .leaf j h)
 
   root-value : (p j : ℕ) → p < patterns k → j < 2 + at net 0 → getD (leafAt k w out p) j 0 ≡ numberAt k t (getD after j 0) p
@@ -113,17 +115,17 @@ module _ {net : List ℕ} {k : ℕ} {t : Table} {before after pending : List ℕ
       (record { bit = λ j h. subst (λ (v : ℕ). v ≤ 1) (sym (shows j (omega (arith, h .most, size)))) (bits j p (omega (arith, h .most, size)) hp) })
       (λ j h. sym (leaf-value c 0 numbers j h))
 
-  root-used : (j : ℕ) → j < 92 → getD out j 0 < wused
+  root-used : (j : ℕ) → j < rootsLength → getD out j 0 < wused
   root-used j h =
       let few-node : n < 26 = omega (arith, i .node .most, few-nodes) in
       ⊎-elim
-      (λ (l : j < 90). subst (λ (e : ℕ). e < wused) (sym (o .leaf j l)) (r .within j (omega arith)))
-      (λ (g : 90 ≤ j).
+      (λ (l : j < leafLength). subst (λ (e : ℕ). e < wused) (sym (o .leaf j l)) (r .within j (omega arith)))
+      (λ (g : leafLength ≤ j).
       ⊎-elim
-      (λ (l : j < 91). let z : j ≡ 90 = omega arith in rw z (subst (λ (e : ℕ). e < wused) (sym (o .touched)) (r .within (90 + n) (omega arith))))
-      (λ (l : 91 ≤ j). let z : j ≡ 91 = omega arith in rw z (subst (λ (e : ℕ). e < wused) (sym (o .pending)) (r .within (116 + n) (omega arith))))
-      (lt-or-ge j 91))
-      (lt-or-ge j 90)
+      (λ (l : j < pendingPlace). let z : j ≡ touchedPlace = omega arith in rw z (subst (λ (e : ℕ). e < wused) (sym (o .touched)) (r .within (touchedPlace + n) (omega arith))))
+      (λ (l : pendingPlace ≤ j). let z : j ≡ pendingPlace = omega arith in rw z (subst (λ (e : ℕ). e < wused) (sym (o .pending)) (r .within (allPendingPlace + n) (omega arith))))
+      (lt-or-ge j pendingPlace))
+      (lt-or-ge j leafLength)
 
   -- so a descent may take them
   pub prepared-rooted : Rooted net n k wl ww wh wused out k
@@ -147,7 +149,7 @@ module _ {net : List ℕ} {k : ℕ} {t : Table} {before after pending : List ℕ
       abbrev then : State
       then = afterState c time numbers
 
-      entry-at : (j : ℕ) → j < 92 → getD numbers j 0 ≡ numberAt k t (getD entries j 0) p
+      entry-at : (j : ℕ) → j < rootsLength → getD numbers j 0 ≡ numberAt k t (getD entries j 0) p
       entry-at j h = leaf-at k t entries p j (omega (arith, g .long))
 
       before-shown : Shows k t before (at net 0) p first
@@ -162,14 +164,14 @@ module _ {net : List ℕ} {k : ℕ} {t : Table} {before after pending : List ℕ
 
       -- the same with the pending change of before T
       abbrev pended : State
-      pended = leafState c (getD numbers 52 0) numbers
+      pended = leafState c (getD numbers changePlace 0) numbers
 
       abbrev touch : Bool
       touch = all || reconsidered c first then n
 
-      touch-number : getD (leafAt k w out p) 90 0 ≡ bit touch
+      touch-number : getD (leafAt k w out p) touchedPlace 0 ≡ bit touch
       touch-number =
-          leaf-at k w out p 90 (omega (arith, o .long))
+          leaf-at k w out p touchedPlace (omega (arith, o .long))
           ∙ ap (λ (e : ℕ). numberAt k w e p) (o .touched)
           ∙ r .touched-is n p first then (i .node .most) inner so hp before-shown after-shown
 
@@ -178,17 +180,17 @@ module _ {net : List ℕ} {k : ℕ} {t : Table} {before after pending : List ℕ
         values = λ j h. root-value p j hp (omega (arith, h .most, size)) ∙ sym (after-shown j (omega (arith, h .most, size)));
         touch = ap (λ (v : ℕ). eqb v 1) touch-number ∙ bit-test touch;
         pending =
-            leaf-at k w out p 91 (omega (arith, o .long))
+            leaf-at k w out p pendingPlace (omega (arith, o .long))
             ∙ ap (λ (e : ℕ). numberAt k w e p) (o .pending)
             ∙ r .pending-is n p (i .node .most) hp
             ∙ ap (λ (e : ℕ). numberAt k t e p) (sym (g .pending-at))
-            ∙ sym (entry-at 52 (omega arith))
-            ∙ sym (leaf-change c (getD numbers 52 0) numbers n own);
+            ∙ sym (entry-at changePlace (omega arith))
+            ∙ sym (leaf-change c (getD numbers changePlace 0) numbers n own);
         keeps = λ e j h of.
             ap (λ (v : ℕ). eqb v 1)
             (root-leaf p (26 + j) (omega (arith, h, transistors-length net, i .cell .within .transistors))
             ∙ r .kept-is n j p then (i .node .most) inner so hp after-shown
-            (ap (λ (x : ℕ). numberAt k w x p) (sym (o .touched)) ∙ sym (leaf-at k w out p 90 (omega (arith, o .long))) ∙ touch-number ∙ ap bit e)
+            (ap (λ (x : ℕ). numberAt k w x p) (sym (o .touched)) ∙ sym (leaf-at k w out p touchedPlace (omega (arith, o .long))) ∙ touch-number ∙ ap bit e)
             (omega (arith, h, transistors-length net)) of)
             ∙ bit-test (matrix.isKept c then j)
             ∙ kept-test c then j;
@@ -196,7 +198,7 @@ module _ {net : List ℕ} {k : ℕ} {t : Table} {before after pending : List ℕ
 
       then-shaped : Shaped c then
       then-shaped =
-          let long : length numbers ≡ 92 = length-map entries (λ (e : ℕ). numberAt k t e p) ∙ g .long in
+          let long : length numbers ≡ rootsLength = length-map entries (λ (e : ℕ). numberAt k t e p) ∙ g .long in
           let one : length (drop 26 numbers) ≡ 66 = simp length-drop (omega arith) in
           let two : length (drop 2 (drop 26 numbers)) ≡ 64 = simp length-drop (omega arith) in
           record { values-long = simp length-take (omega (arith, size, few-nodes)); changes-long = length-replicate (length (c .nodes)) (pendingIn time numbers) }
@@ -206,7 +208,7 @@ module _ {net : List ℕ} {k : ℕ} {t : Table} {before after pending : List ℕ
       unfolding changeFrom
       prepared-settles =
           settled c (all-legal legal) n inner own (leafAt k w out p) time pended then touch then-shaped
-          (leaf-change c (pendingIn time numbers) (drop 26 numbers) n own ∙ sym (ap (pendingAfter time) (leaf-change c (getD numbers 52 0) numbers n own))) right
+          (leaf-change c (pendingIn time numbers) (drop 26 numbers) n own ∙ sym (ap (pendingAfter time) (leaf-change c (getD numbers changePlace 0) numbers n own))) right
           ∙ ap (λ (q : ℕ). cond touch (nextChange c time then (kept c then) n) q) (leaf-change c (pendingIn time numbers) (drop 26 numbers) n own)
 
     -- so the same is stored

@@ -9,22 +9,14 @@ use Rattle.rules.specs.State.{State}
 use Rattle.rules.specs.Group.{reconsidered}
 use Rattle.rules.specs.Kept.{kept}
 use Rattle.rules.specs.Step.{nextChange}
-use Rattle.walk.specs.Leaf.{leafState}
-use Rattle.descent.specs.Settle.{rootsLength, leafAt, pendingAfter}
-
--- the places: 26 values before T, 26 values after it, the pending change; as many as a descent has roots
-abbrev pub afterPlace : ℕ
-afterPlace = 26
-
-abbrev pub pendingPlace : ℕ
-pendingPlace = 52
-
-abbrev pub numbersLength : ℕ
-numbersLength = rootsLength
+use Rattle.net.specs.Roots.{afterPlace, changePlace}
+use Rattle.plain.specs.Leaf.{leafState}
+use Rattle.plain.specs.Settle.{pendingAfter}
+use Rattle.descent.specs.Settle.{leafAt}
 
 -- the pending change once T has happened
 abbrev pub pendingIn : ℕ → List ℕ → ℕ
-pendingIn time numbers = pendingAfter time (getD numbers pendingPlace 0)
+pendingIn time numbers = pendingAfter time (getD numbers changePlace 0)
 
 -- the states before T and once all of T has happened
 abbrev pub beforeState : Circuit → List ℕ → State

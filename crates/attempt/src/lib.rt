@@ -2,26 +2,30 @@
 // Promise: an attempt that was done has stored `changeBy` at every pattern, with exactly its missing entries; any other has stored nothing.
 // Internal to our crates: the length of working decides only which way is gone (crate evaluate has the other).
 use descent::descend::descend;
+use net::roots::AFTER;
+use net::roots::ALL_PENDING;
+use net::roots::ALL_ROOTS;
+use net::roots::CHANGE;
+use net::roots::LEAF;
+use net::roots::PENDING;
+use net::roots::ROOTS;
+use net::roots::TOUCHED;
 use prepare::prepare;
 use table::Put;
+use table::Stop;
+use table::stopped;
 ghost use mathlib.Core.Path.{_≡_};
 ghost use mathlib.Core.Bool.{true, false};
 ghost use Prim.Native.Nat.{_<_, _≤_, min};
 ghost use Rattle.diagram.specs.Store.{store};
-ghost use Rattle.diagram.specs.Call.{tableOf};
+ghost use Rattle.diagram.specs.Held.{held};
 ghost use Rattle.net.specs.Net.{lettersPlace, at as atPlace, netCircuit};
-ghost use Rattle.table.specs.Holds.{columns, Sized, Outcome};
+ghost use Rattle.table.specs.Holds.{Sized, Outcome};
 ghost use Rattle.functions.specs.Open.{Open};
 ghost use Rattle.descent.specs.Descend.{Inner};
 ghost use Rattle.attempt.specs.Change.{changeBy};
 ghost use Rattle.attempt.specs.Entries.{Evaluable};
 ghost use Rattle.attempt.specs.Places.{RootsFor, PartOf};
-
-// The places of the entries: values before T by node number, values after it, the pending change; 0 past them, up to the width of a
-// descent's roots, so that the same functions take their parts.
-pub const AFTER: usize = 26;
-
-pub const PENDING: usize = 52;
 
 // An attempt takes at most so many entries of working: one that fails there costs little beside the rule for each pattern.
 pub const MOST: usize = 4096;
@@ -33,23 +37,23 @@ pub struct Tried {
 }
 
 // The roots of a descent for node n among the roots of a step.
-pub fn roots_for(roots: [u32; 142], n: usize) -> [u32; 92]
+pub fn roots_for(roots: [u32; ALL_ROOTS], n: usize) -> [u32; ROOTS]
     requires { ⌜ n < 26 ⌝ }
     ensures { λ r. ⌜ RootsFor roots n r ⌝ }
 {
-    let mut out = [0u32; 92];
+    let mut out = [0u32; ROOTS];
     let mut j = 0;
-    while j < 90 {
+    while j < LEAF {
         out[j] = roots[j];
         j += 1;
     }
-    out[90] = roots[90 + n];
-    out[91] = roots[116 + n];
+    out[TOUCHED] = roots[TOUCHED + n];
+    out[PENDING] = roots[ALL_PENDING + n];
     out
 }
 
 // 26 entries from a place on.
-fn part(entries: &[u32; 92], from: usize) -> [u32; 26]
+fn part(entries: &[u32; ROOTS], from: usize) -> [u32; 26]
     requires { ⌜ from ≤ 66 ⌝ }
     ensures { λ r. ⌜ PartOf (now (entries .entry)) from r ⌝ }
 {
@@ -77,10 +81,10 @@ fn attempt_in(
     time: u32,
     all: bool,
     n: u32,
-    entries: &[u32; 92],
+    entries: &[u32; ROOTS],
 ) -> Tried
-    requires { ⌜ Inner (now net) n × Open (atPlace (now net) lettersPlace) (now letter) (now low) (now high) (now index) used × Evaluable (atPlace (now net) lettersPlace) (tableOf (columns (now letter) (now low) (now high)) used) used (atPlace (now net) lettersPlace) (now entries) × Sized (now wletter) (now wlow) (now whigh) (now windex) ⌝ }
-    ensures { λ r. ⌜ (r .done ≡ true → Outcome (tableOf (columns (now (letter .entry)) (now (low .entry)) (now (high .entry))) used) (store (atPlace (now (net .entry)) lettersPlace) 0 (changeBy (netCircuit (now (net .entry))) time all n (atPlace (now (net .entry)) lettersPlace) (tableOf (columns (now (letter .entry)) (now (low .entry)) (now (high .entry))) used) (now (entries .entry))) (tableOf (columns (now (letter .entry)) (now (low .entry)) (now (high .entry))) used)) (now (letter .exit)) (now (low .exit)) (now (high .exit)) (now (index .exit)) (r .put)) × (r .done ≡ false → (now (letter .exit) ≡ now (letter .entry)) × (now (low .exit) ≡ now (low .entry)) × (now (high .exit) ≡ now (high .entry)) × (now (index .exit) ≡ now (index .entry))) ⌝ }
+    requires { ⌜ Inner (now net) n × Open (atPlace (now net) lettersPlace) (now letter) (now low) (now high) (now index) used × Evaluable (atPlace (now net) lettersPlace) (held (now letter) (now low) (now high) used) used (atPlace (now net) lettersPlace) (now entries) × Sized (now wletter) (now wlow) (now whigh) (now windex) ⌝ }
+    ensures { λ r. ⌜ (r .done ≡ true → Outcome (held (now (letter .entry)) (now (low .entry)) (now (high .entry)) used) (store (atPlace (now (net .entry)) lettersPlace) 0 (changeBy (netCircuit (now (net .entry))) time all n (atPlace (now (net .entry)) lettersPlace) (held (now (letter .entry)) (now (low .entry)) (now (high .entry)) used) (now (entries .entry))) (held (now (letter .entry)) (now (low .entry)) (now (high .entry)) used)) (now (letter .exit)) (now (low .exit)) (now (high .exit)) (now (index .exit)) (r .put)) × (r .done ≡ false → (now (letter .exit) ≡ now (letter .entry)) × (now (low .exit) ≡ now (low .entry)) × (now (high .exit) ≡ now (high .entry)) × (now (index .exit) ≡ now (index .entry))) ⌝ }
 {
     let k = net[net::LETTERS];
     let at = n as usize;
@@ -98,15 +102,16 @@ fn attempt_in(
         k,
         part(entries, 0),
         part(entries, AFTER),
-        [entries[PENDING]; 26],
+        [entries[CHANGE]; 26],
         all,
         group,
     );
-    if q.full {
+    let why = q.stop;
+    if stopped(why) {
         return Tried {
             done: false,
             put: Put {
-                full: false,
+                stop: Stop::Going,
                 entry: 0,
                 used,
             },
@@ -155,10 +160,10 @@ pub fn attempt(
     time: u32,
     all: bool,
     n: u32,
-    entries: &[u32; 92],
+    entries: &[u32; ROOTS],
 ) -> Tried
-    requires { ⌜ Inner (now net) n × Open (atPlace (now net) lettersPlace) (now letter) (now low) (now high) (now index) used × Evaluable (atPlace (now net) lettersPlace) (tableOf (columns (now letter) (now low) (now high)) used) used (atPlace (now net) lettersPlace) (now entries) × Sized (now wletter) (now wlow) (now whigh) (now windex) ⌝ }
-    ensures { λ r. ⌜ (r .done ≡ true → Outcome (tableOf (columns (now (letter .entry)) (now (low .entry)) (now (high .entry))) used) (store (atPlace (now (net .entry)) lettersPlace) 0 (changeBy (netCircuit (now (net .entry))) time all n (atPlace (now (net .entry)) lettersPlace) (tableOf (columns (now (letter .entry)) (now (low .entry)) (now (high .entry))) used) (now (entries .entry))) (tableOf (columns (now (letter .entry)) (now (low .entry)) (now (high .entry))) used)) (now (letter .exit)) (now (low .exit)) (now (high .exit)) (now (index .exit)) (r .put)) × (r .done ≡ false → (now (letter .exit) ≡ now (letter .entry)) × (now (low .exit) ≡ now (low .entry)) × (now (high .exit) ≡ now (high .entry)) × (now (index .exit) ≡ now (index .entry))) ⌝ }
+    requires { ⌜ Inner (now net) n × Open (atPlace (now net) lettersPlace) (now letter) (now low) (now high) (now index) used × Evaluable (atPlace (now net) lettersPlace) (held (now letter) (now low) (now high) used) used (atPlace (now net) lettersPlace) (now entries) × Sized (now wletter) (now wlow) (now whigh) (now windex) ⌝ }
+    ensures { λ r. ⌜ (r .done ≡ true → Outcome (held (now (letter .entry)) (now (low .entry)) (now (high .entry)) used) (store (atPlace (now (net .entry)) lettersPlace) 0 (changeBy (netCircuit (now (net .entry))) time all n (atPlace (now (net .entry)) lettersPlace) (held (now (letter .entry)) (now (low .entry)) (now (high .entry)) used) (now (entries .entry))) (held (now (letter .entry)) (now (low .entry)) (now (high .entry)) used)) (now (letter .exit)) (now (low .exit)) (now (high .exit)) (now (index .exit)) (r .put)) × (r .done ≡ false → (now (letter .exit) ≡ now (letter .entry)) × (now (low .exit) ≡ now (low .entry)) × (now (high .exit) ≡ now (high .entry)) × (now (index .exit) ≡ now (index .entry))) ⌝ }
 {
     let size = smaller(wletter.len());
     let places = 2 * size;

@@ -5,19 +5,23 @@ use crate::refused;
 use refusal::Refusal;
 use refusal::Reply;
 use table::Put;
+use table::Stop;
 use table::clear;
 
-// Where there was no room, the columns are cleared from the old used count on.
+// The reason becomes the refusal. Where storing stopped, the columns are cleared from the old used count on.
 pub fn closed(letter: &mut [u32], low: &mut [u32], high: &mut [u32], used: u32, put: Put) -> Stored
-    ensures { λ r. ⌜ Closed (now (letter .entry)) (now (low .entry)) (now (high .entry)) (now (letter .exit)) (now (low .exit)) (now (high .exit)) used (put .full) (put .entry) (put .used) (r .reply) (r .used) (r .entry) ⌝ }
+    ensures { λ r. ⌜ Closed (now (letter .entry)) (now (low .entry)) (now (high .entry)) (now (letter .exit)) (now (low .exit)) (now (high .exit)) used (put .stop) (put .entry) (put .used) (r .reply) (r .used) (r .entry) ⌝ }
 {
-    if put.full {
-        clear(letter, low, high, used);
-        return refused(Refusal::Full, used);
-    }
-    Stored {
-        reply: Reply::Done,
-        used: put.used,
-        entry: put.entry,
+    let why = put.stop;
+    match why {
+        Stop::Going => Stored {
+            reply: Reply::Done,
+            used: put.used,
+            entry: put.entry,
+        },
+        Stop::Full => {
+            clear(letter, low, high, used);
+            refused(Refusal::Full, used)
+        }
     }
 }

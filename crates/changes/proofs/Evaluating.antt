@@ -11,9 +11,10 @@ use Rattle.lists.proofs.Map.{map-same}
 use Rattle.format.specs.Circuit.{Circuit, firstNodeNumber}
 use Rattle.diagram.specs.Pattern.{patterns}
 use Rattle.diagram.specs.Table.{Table, never, numberAt}
-use Rattle.diagram.specs.Call.{tableOf}
+use Rattle.diagram.specs.Held.{held}
 use Rattle.rules.specs.State.{isInner}
-use Rattle.table.specs.Holds.{columns, Sized}
+use Rattle.net.specs.Roots.{changePlace}
+use Rattle.table.specs.Holds.{Sized}
 use Rattle.descent.specs.Settle.{leafAt}
 use Rattle.attempt.specs.Change.{changeFrom}
 use Rattle.attempt.specs.Entries.{Evaluable}
@@ -64,7 +65,7 @@ module _ {k : ℕ} {t : Table} {used : ℕ} {before after pending : List ℕ} (s
     bits = bits;
   }
     where
-      bits : (j p : ℕ) → j < 52 → p < patterns k → numberAt k t (getD (entriesFor before after pending n) j 0) p ≤ 1
+      bits : (j p : ℕ) → j < changePlace → p < patterns k → numberAt k t (getD (entriesFor before after pending n) j 0) p ≤ 1
       bits j p h l =
           ⊎-elim
           (λ (a : j < 26). rw (entries-before before after (getD pending n 0) (s .first .long) (s .second .long) j a) (s .first .bits j p a l))
@@ -76,10 +77,10 @@ module _ {k : ℕ} {t : Table} {used : ℕ} {before after pending : List ℕ} (s
 -- in the table as it has grown by the nodes before
 module _ {m k : ℕ} {g : ℕ → ℕ → ℕ} {l₀ w₀ h₀ ix₀ : List ℕ} {used₀ : ℕ} {l w h ix : List ℕ} {used : ℕ} {out : List ℕ} {i : ℕ} (s : Storing m k g l₀ w₀ h₀ ix₀ used₀ l w h ix used out i) where
   abbrev t : Table
-  t = tableOf (columns l₀ w₀ h₀) used₀
+  t = held l₀ w₀ h₀ used₀
 
   abbrev u : Table
-  u = tableOf (columns l w h) used
+  u = held l w h used
 
   values-grown : {entries : List ℕ} → ValueEntries k t used₀ entries → ValueEntries k u used entries
   values-grown {entries} v = record {
@@ -97,14 +98,14 @@ module _ {m k : ℕ} {g : ℕ → ℕ → ℕ} {l₀ w₀ h₀ ix₀ : List ℕ}
     third = record { long = e .third .long; within = λ j a. omega (arith, e .third .within j a, storing-longer s) };
   }
 
-  module _ {before after pending : List ℕ} (e : StepEntries k (tableOf (columns l₀ w₀ h₀) used₀) used₀ before after pending) (small : i < 24) {entries : List ℕ} (is : entries ≡ entriesWith before after (getD pending (i + 2) 0)) where
+  module _ {before after pending : List ℕ} (e : StepEntries k (held l₀ w₀ h₀ used₀) used₀ before after pending) (small : i < 24) {entries : List ℕ} (is : entries ≡ entriesWith before after (getD pending (i + 2) 0)) where
     -- node record i may be evaluated
-    pub next-evaluable : Evaluable k (tableOf (columns l w h) used) used k entries
+    pub next-evaluable : Evaluable k (held l w h used) used k entries
     next-evaluable = rw is (entries-evaluable (entries-grown e) {n = i + 2} (omega arith))
 
     -- to what it has by the table as it was at first
     pub next-same : (c : Circuit) (time : ℕ) (all : Bool) (p : ℕ)
-        → changeWith c time all k (tableOf (columns l w h) used) entries (i + 2) p ≡ changeOf c time all k (tableOf (columns l₀ w₀ h₀) used₀) before after pending (firstNodeNumber + i) p
+        → changeWith c time all k (held l w h used) entries (i + 2) p ≡ changeOf c time all k (held l₀ w₀ h₀ used₀) before after pending (firstNodeNumber + i) p
     next-same c time all p =
         let n : firstNodeNumber + i ≡ i + 2 = omega arith in
         let numbers : leafAt k u (entriesFor before after pending (i + 2)) p ≡ leafAt k t (entriesFor before after pending (i + 2)) p =

@@ -14,7 +14,7 @@ use Rattle.format.specs.Circuit.{Circuit, noTransistor}
 use Rattle.rules.specs.Group.{labelAt, groups, ofGroup, some}
 use Rattle.net.specs.Net.{at, netTransistor, netCircuit}
 use Rattle.net.proofs.Laying.{transistors-length, transistor-at}
-use Rattle.walk.specs.Ready.{Net}
+use Rattle.plain.specs.Ready.{Net}
 use Rattle.plain.specs.Shown.{disturbedAt}
 use Rattle.prepare.specs.Steps.{groupOf}
 use Rattle.prepare.proofs.Reading.{laid-other}

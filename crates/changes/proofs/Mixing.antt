@@ -12,13 +12,13 @@ use Rattle.lists.proofs.Cases.{eq-or-ne}
 use Rattle.format.specs.Circuit.{Circuit, firstNodeNumber}
 use Rattle.diagram.specs.Pattern.{patterns}
 use Rattle.diagram.specs.Table.{Table}
-use Rattle.diagram.specs.Call.{tableOf}
+use Rattle.diagram.specs.Held.{held}
+use Rattle.table.specs.declared.Stop.{Stop}
 use Rattle.rules.specs.State.{nodeNumbers}
 use Rattle.rules.specs.Run.{StoredAll, storeAll}
 use Rattle.net.specs.Net.{lettersPlace, at, netCircuit}
 use Rattle.net.proofs.Laying.{nodes-length}
-use Rattle.walk.specs.Ready.{Net, Noded}
-use Rattle.table.specs.Holds.{columns}
+use Rattle.plain.specs.Ready.{Net, Noded}
 use Rattle.functions.specs.Open.{Open}
 use Rattle.prepare.specs.Roots.{Roots}
 use Rattle.values.specs.All.{OutcomeAll}
@@ -41,18 +41,18 @@ cond-below b {x} {y} {m} = by b
     by false f g = g
 
 module _ {net l w h ix : List ℕ} {used : ℕ} (cell : Net net) (o : Open (at net lettersPlace) l w h ix used) {before after pending : List ℕ}
-    (e : StepEntries (at net lettersPlace) (tableOf (columns l w h) used) used before after pending) {marks masked : List ℕ} (s : Masked marks pending masked) where
+    (e : StepEntries (at net lettersPlace) (held l w h used) used before after pending) {marks masked : List ℕ} (s : Masked marks pending masked) where
   abbrev k : ℕ
   k = at net lettersPlace
 
   abbrev t : Table
-  t = tableOf (columns l w h) used
+  t = held l w h used
 
   abbrev c : Circuit
   c = netCircuit net
 
   -- what a step is prepared from
-  pub masked-entries : StepEntries (at net lettersPlace) (tableOf (columns l w h) used) used before after masked
+  pub masked-entries : StepEntries (at net lettersPlace) (held l w h used) used before after masked
   masked-entries = record {
     first = e .first;
     second = e .second;
@@ -67,9 +67,9 @@ module _ {net l w h ix : List ℕ} {used : ℕ} (cell : Net net) (o : Open (at n
   masked-same n small ne = s .is n small ∙ ap (λ (b : Bool). cond b 0 (getD pending n 0)) (ne-eqb (getD marks n 0) 0 ne)
 
   module _ {all : Bool} (m : NodeMarks net before after all marks) {wl ww wh wix : List ℕ} {wused : ℕ} {roots : List ℕ}
-      (r : Roots net (at net lettersPlace) (tableOf (columns l w h) used) before after masked all 0 wl ww wh wix wused roots) (time : ℕ) where
+      (r : Roots net (at net lettersPlace) (held l w h used) before after masked all 0 wl ww wh wix wused roots) (time : ℕ) where
     abbrev u : Table
-    u = tableOf (columns wl ww wh) wused
+    u = held wl ww wh wused
 
     mixed-change : (n p : ℕ) → Noded net n → p < patterns k → mixedOf c time k t u roots marks pending n p ≡ changeOf c time all k t before after pending n p
     mixed-change n p node less =
@@ -84,20 +84,20 @@ module _ {net l w h ix : List ℕ} {used : ℕ} (cell : Net net) (o : Open (at n
         (eq-or-ne (getD marks n 0) 0)
 
     -- what is stored so is what is stored by the entries
-    pub mixed-stored : {l1 w1 h1 ix1 : List ℕ} {full : Bool} {most : ℕ} {out : List ℕ}
-        → OutcomeAll (tableOf (columns l w h) used) (storeAll (at net lettersPlace) (map (mixedOf (netCircuit net) time (at net lettersPlace) (tableOf (columns l w h) used) (tableOf (columns wl ww wh) wused) roots marks pending) (nodeNumbers (netCircuit net))) (tableOf (columns l w h) used)) l1 w1 h1 ix1 full most out
-        → OutcomeAll (tableOf (columns l w h) used) (storeAll (at net lettersPlace) (map (changeOf (netCircuit net) time all (at net lettersPlace) (tableOf (columns l w h) used) before after pending) (nodeNumbers (netCircuit net))) (tableOf (columns l w h) used)) l1 w1 h1 ix1 full most out
-    mixed-stored {l1} {w1} {h1} {ix1} {full} {most} {out} =
-        subst (λ (v : StoredAll). OutcomeAll t v l1 w1 h1 ix1 full most out)
+    pub mixed-stored : {l1 w1 h1 ix1 : List ℕ} {stop : Stop} {most : ℕ} {out : List ℕ}
+        → OutcomeAll (held l w h used) (storeAll (at net lettersPlace) (map (mixedOf (netCircuit net) time (at net lettersPlace) (held l w h used) (held wl ww wh wused) roots marks pending) (nodeNumbers (netCircuit net))) (held l w h used)) l1 w1 h1 ix1 stop most out
+        → OutcomeAll (held l w h used) (storeAll (at net lettersPlace) (map (changeOf (netCircuit net) time all (at net lettersPlace) (held l w h used) before after pending) (nodeNumbers (netCircuit net))) (held l w h used)) l1 w1 h1 ix1 stop most out
+    mixed-stored {l1} {w1} {h1} {ix1} {stop} {most} {out} =
+        subst (λ (v : StoredAll). OutcomeAll t v l1 w1 h1 ix1 stop most out)
         (nodes-stored k (mixedOf c time k t u roots marks pending) (changeOf c time all k t before after pending) (length (c .nodes)) t
         (λ n p least less q. mixed-change n p (record { least = least; most = omega (arith, nodes-length net) }) q))
 
 -- node record i, in the table as it has grown by the nodes before
 pub mixed-same : {m k : ℕ} {g : ℕ → ℕ → ℕ} {l₀ w₀ h₀ ix₀ : List ℕ} {used₀ : ℕ} {l w h ix : List ℕ} {used : ℕ} {out : List ℕ} {i : ℕ} → Storing m k g l₀ w₀ h₀ ix₀ used₀ l w h ix used out i
     → (c : Circuit) (time : ℕ) (u : Table) (roots marks pending : List ℕ) → getD pending (i + 2) 0 < used₀ → (p : ℕ)
-    → mixedWith c time k (tableOf (columns l w h) used) u roots (getD marks (i + 2) 0) (getD pending (i + 2) 0) (i + 2) p
-    ≡ mixedOf c time k (tableOf (columns l₀ w₀ h₀) used₀) u roots marks pending (firstNodeNumber + i) p
+    → mixedWith c time k (held l w h used) u roots (getD marks (i + 2) 0) (getD pending (i + 2) 0) (i + 2) p
+    ≡ mixedOf c time k (held l₀ w₀ h₀ used₀) u roots marks pending (firstNodeNumber + i) p
 mixed-same {k = k} {l₀ = l₀} {w₀} {h₀} {used₀ = used₀} {i = i} s c time u roots marks pending small p =
     let n : i + 2 ≡ firstNodeNumber + i = omega arith in
     ap₂ (λ (a b : ℕ). cond (eqb (getD marks (i + 2) 0) 0) a b) (rest-same s c time pending small p) (settled-again c time k u roots i p)
-    ∙ ap (λ (x : ℕ). cond (eqb (getD marks x 0) 0) (restOf c time k (tableOf (columns l₀ w₀ h₀) used₀) pending (firstNodeNumber + i) p) (settledFor c time k u roots (firstNodeNumber + i) p)) n
+    ∙ ap (λ (x : ℕ). cond (eqb (getD marks x 0) 0) (restOf c time k (held l₀ w₀ h₀ used₀) pending (firstNodeNumber + i) p) (settledFor c time k u roots (firstNodeNumber + i) p)) n

@@ -10,14 +10,13 @@ use Rattle.format.specs.Circuit.{firstNodeNumber}
 use Rattle.lists.proofs.Map.{map-at}
 use Rattle.diagram.specs.Pattern.{patterns}
 use Rattle.diagram.specs.Table.{Table}
-use Rattle.diagram.specs.Call.{tableOf}
+use Rattle.diagram.specs.Held.{held}
 use Rattle.rules.specs.State.{upFrom, isInner}
 use Rattle.rules.specs.Run.{storeAll}
 use Rattle.rules.proofs.State.{up-length, up-at}
 use Rattle.rules.proofs.StoreAll.{noFunction, storeAll-ext}
 use Rattle.net.specs.Net.{nodesPlace, lettersPlace, at, netCircuit}
-use Rattle.walk.specs.Ready.{Net, Noded}
-use Rattle.table.specs.Holds.{columns}
+use Rattle.plain.specs.Ready.{Net, Noded}
 use Rattle.functions.specs.Open.{Open}
 use Rattle.functions.proofs.Carry.{legible-sound}
 use Rattle.working.specs.Many.{AllUsed}
@@ -50,12 +49,12 @@ same-cond true x y z e = e refl
 same-cond false x y z e = refl
 
 module _ {net l w h ix : List ℕ} {used : ℕ} (cell : Net net) (o : Open (at net lettersPlace) l w h ix used) {before after pending : List ℕ}
-    (e : StepEntries (at net lettersPlace) (tableOf (columns l w h) used) used before after pending) where
+    (e : StepEntries (at net lettersPlace) (held l w h used) used before after pending) where
   abbrev k : ℕ
   k = at net lettersPlace
 
   abbrev t : Table
-  t = tableOf (columns l w h) used
+  t = held l w h used
 
   few-nodes : at net nodesPlace ≤ 24
   few-nodes = cell .within .nodes
@@ -70,10 +69,10 @@ module _ {net l w h ix : List ℕ} {used : ℕ} (cell : Net net) (o : Open (at n
   pub pending-used : AllUsed (firstNodeNumber + at net nodesPlace) pending used
   pending-used m less = e .third .within m (omega (arith, few-nodes))
 
-  pub before-bits : Bits (at net lettersPlace) (tableOf (columns l w h) used) before (firstNodeNumber + at net nodesPlace)
+  pub before-bits : Bits (at net lettersPlace) (held l w h used) before (firstNodeNumber + at net nodesPlace)
   before-bits n p less q = e .first .bits n p (omega (arith, few-nodes)) q
 
-  pub after-bits : Bits (at net lettersPlace) (tableOf (columns l w h) used) after (firstNodeNumber + at net nodesPlace)
+  pub after-bits : Bits (at net lettersPlace) (held l w h used) after (firstNodeNumber + at net nodesPlace)
   after-bits n p less q = e .second .bits n p (omega (arith, few-nodes)) q
 
   entries-of : (n : ℕ) → EntriesOf before after pending n (entriesFor before after pending n)
@@ -85,7 +84,7 @@ module _ {net l w h ix : List ℕ} {used : ℕ} (cell : Net net) (o : Open (at n
   }
 
   module _ {all : Bool} {wl ww wh wix : List ℕ} {wused : ℕ} {roots : List ℕ}
-      (r : Roots net (at net lettersPlace) (tableOf (columns l w h) used) before after pending all 0 wl ww wh wix wused roots) where
+      (r : Roots net (at net lettersPlace) (held l w h used) before after pending all 0 wl ww wh wix wused roots) where
     inner-node : (n : ℕ) → Noded net n → isInner (netCircuit net) n ≡ true → Inner net n
     inner-node n node inner = record { cell = cell; node = node; inner = not-true _ inner }
 
@@ -97,7 +96,7 @@ module _ {net l w h ix : List ℕ} {used : ℕ} (cell : Net net) (o : Open (at n
     }
 
     pub step-settles : (time n p : ℕ) → Noded net n → p < patterns (at net lettersPlace)
-        → settledFor (netCircuit net) time (at net lettersPlace) (tableOf (columns wl ww wh) wused) roots n p ≡ changeOf (netCircuit net) time all (at net lettersPlace) (tableOf (columns l w h) used) before after pending n p
+        → settledFor (netCircuit net) time (at net lettersPlace) (held wl ww wh wused) roots n p ≡ changeOf (netCircuit net) time all (at net lettersPlace) (held l w h used) before after pending n p
     step-settles time n p node less =
         same-cond (isInner (netCircuit net) n) _ _ _
         (λ inner.

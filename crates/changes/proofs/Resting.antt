@@ -8,25 +8,25 @@ use lib.ListN.{length, getD}
 use Rattle.format.specs.Circuit.{Circuit, firstNodeNumber}
 use Rattle.diagram.specs.Table.{Table, terminalLetter, terminal, entryAt, never}
 use Rattle.diagram.specs.Store.{add, both, store}
-use Rattle.diagram.specs.Call.{tableOf}
+use Rattle.diagram.specs.Held.{held}
 use Rattle.diagram.proofs.Sound.{Branch, Sound}
 use Rattle.diagram.proofs.Number.{part-low, part-high, number-terminal, numberAt-extends}
 use Rattle.diagram.proofs.Store.{store-number, store-ext}
 use Rattle.diagram.proofs.Shannon.{none, root, store-roots}
 use Rattle.rules.specs.State.{isInner}
 use Rattle.table.specs.declared.Put.{Put}
-use Rattle.table.specs.Holds.{columns, Outcome}
+use Rattle.table.specs.Holds.{Outcome}
 use Rattle.functions.specs.Open.{Open, Operand}
 use Rattle.functions.proofs.Carry.{legible-sound, legible-long, letter-at, low-at, high-at}
 use Rattle.functions.proofs.Halving.{Halves}
 use Rattle.working.proofs.Grow.{bring-high}
-use Rattle.descent.specs.Settle.{pendingAfter}
+use Rattle.plain.specs.Settle.{pendingAfter}
 use Rattle.values.proofs.Series.{Storing, storing-number}
 use Rattle.changes.specs.Rest.{pastOf, restWith, restOf}
 
-module _ {letters : ℕ} {l w h ix : List ℕ} {used : ℕ} (o : Open letters l w h ix used) (time : ℕ) {left e : ℕ} (x : Operand letters (tableOf (columns l w h) used) used left e) where
+module _ {letters : ℕ} {l w h ix : List ℕ} {used : ℕ} (o : Open letters l w h ix used) (time : ℕ) {left e : ℕ} (x : Operand letters (held l w h used) used left e) where
   abbrev t : Table
-  t = tableOf (columns l w h) used
+  t = held l w h used
 
   sound : Sound letters t
   sound = legible-sound (o .legible)
@@ -35,14 +35,14 @@ module _ {letters : ℕ} {l w h ix : List ℕ} {used : ℕ} (o : Open letters l 
   inside = omega (arith, x .within, legible-long (o .legible))
 
   -- a terminal
-  past-terminal : getD l e 0 ≡ terminalLetter → store letters 0 (pastOf time letters (tableOf (columns l w h) used) e) (tableOf (columns l w h) used) ≡ add (terminal (pendingAfter time (getD w e 0))) (tableOf (columns l w h) used)
+  past-terminal : getD l e 0 ≡ terminalLetter → store letters 0 (pastOf time letters (held l w h used) e) (held l w h used) ≡ add (terminal (pendingAfter time (getD w e 0))) (held l w h used)
   past-terminal q =
       store-number letters 0 (pendingAfter time (getD w e 0)) (pastOf time letters t e) t
       (λ p _. ap (pendingAfter time) (number-terminal letters 0 t e p (omega (arith, o .legible .few)) (letter-at (o .legible) e (x .within) ∙ q) ∙ low-at (o .legible) e (x .within)))
 
   pub past-leaf : {l1 w1 h1 ix1 : List ℕ} {r : Put} (v : ℕ) → v ≡ pendingAfter time (getD w e 0) → getD l e 0 ≡ terminalLetter
-      → Outcome (tableOf (columns l w h) used) (add (terminal v) (tableOf (columns l w h) used)) l1 w1 h1 ix1 r
-      → Outcome (tableOf (columns l w h) used) (store letters 0 (pastOf time letters (tableOf (columns l w h) used) e) (tableOf (columns l w h) used)) l1 w1 h1 ix1 r
+      → Outcome (held l w h used) (add (terminal v) (held l w h used)) l1 w1 h1 ix1 r
+      → Outcome (held l w h used) (store letters 0 (pastOf time letters (held l w h used) e) (held l w h used)) l1 w1 h1 ix1 r
   past-leaf v is q done = rw (past-terminal q, ← is) done
 
   module _ (node : getD l e 0 ≡ terminalLetter → ⊥) where
@@ -50,7 +50,7 @@ module _ {letters : ℕ} {l w h ix : List ℕ} {used : ℕ} (o : Open letters l 
     branch-e = sound .legal e inside .node (λ q. node (sym (letter-at (o .legible) e (x .within)) ∙ q))
 
     -- a branch: its two parts
-    pub past-halves : Halves letters (tableOf (columns l w h) used) (getD l e 0) (pastOf time letters (tableOf (columns l w h) used) e) (pastOf time letters (tableOf (columns l w h) used) (getD w e 0))
+    pub past-halves : Halves letters (held l w h used) (getD l e 0) (pastOf time letters (held l w h used) e) (pastOf time letters (held l w h used) (getD w e 0))
         (λ u. pastOf time letters u (getD h e 0))
     past-halves = record {
       halved =
@@ -66,8 +66,8 @@ module _ {letters : ℕ} {l w h ix : List ℕ} {used : ℕ} (o : Open letters l 
 -- node record i, in the table as it has grown by the nodes before
 pub rest-same : {m k : ℕ} {g : ℕ → ℕ → ℕ} {l₀ w₀ h₀ ix₀ : List ℕ} {used₀ : ℕ} {l w h ix : List ℕ} {used : ℕ} {out : List ℕ} {i : ℕ} → Storing m k g l₀ w₀ h₀ ix₀ used₀ l w h ix used out i
     → (c : Circuit) (time : ℕ) (pending : List ℕ) → getD pending (i + 2) 0 < used₀ → (p : ℕ)
-    → restWith c time k (tableOf (columns l w h) used) (getD pending (i + 2) 0) (i + 2) p ≡ restOf c time k (tableOf (columns l₀ w₀ h₀) used₀) pending (firstNodeNumber + i) p
+    → restWith c time k (held l w h used) (getD pending (i + 2) 0) (i + 2) p ≡ restOf c time k (held l₀ w₀ h₀ used₀) pending (firstNodeNumber + i) p
 rest-same {k = k} {l₀ = l₀} {w₀} {h₀} {used₀ = used₀} {i = i} s c time pending small p =
     let n : firstNodeNumber + i ≡ i + 2 = omega arith in
     ap (λ (v : ℕ). cond (isInner c (i + 2)) (pendingAfter time v) never) (storing-number s (getD pending (i + 2) 0) p small)
-    ∙ ap (λ (x : ℕ). restOf c time k (tableOf (columns l₀ w₀ h₀) used₀) pending x p) (sym n)
+    ∙ ap (λ (x : ℕ). restOf c time k (held l₀ w₀ h₀ used₀) pending x p) (sym n)

@@ -5,16 +5,17 @@ use mathlib.Core.Bool.{Bool, true, false, cond, true≢false}
 use Prim.Native.Nat.{ℕ}
 use Rattle.diagram.specs.Table.{Table, never}
 use Rattle.diagram.specs.Store.{store}
-use Rattle.diagram.specs.Call.{tableOf}
+use Rattle.diagram.specs.Held.{held}
 use Rattle.table.specs.declared.Put.{Put}
-use Rattle.table.specs.Holds.{columns, Outcome}
+use Rattle.table.specs.declared.Stop.the-variants.{Going}
+use Rattle.table.specs.Holds.{Outcome}
 use Rattle.table.proofs.Outcomes.{put}
 use Rattle.functions.specs.Open.{Open}
 use Rattle.rules.specs.Run.{neverEntry}
 use Rattle.values.proofs.Single.{never-outcome}
 
 pub outer-put : {k : ℕ} {l w h ix : List ℕ} {used : ℕ} → Open k l w h ix used → (inner : Bool) (f : ℕ → ℕ) → inner ≡ false
-    → Outcome (tableOf (columns l w h) used) (store k 0 (λ p. cond inner (f p) never) (tableOf (columns l w h) used)) l w h ix (put false neverEntry used)
+    → Outcome (held l w h used) (store k 0 (λ p. cond inner (f p) never) (held l w h used)) l w h ix (put Going neverEntry used)
 outer-put o true f e = absurd (true≢false e)
 outer-put o false f e = never-outcome o (λ _. never) (λ p _. refl)
 

@@ -13,7 +13,8 @@ use Rattle.format.specs.declared.Transistor.{Transistor}
 use Rattle.format.specs.Circuit.{Circuit, noTransistor}
 use Rattle.format.specs.Legal.{isInput}
 use Rattle.diagram.specs.Table.{Table, numberAt}
-use Rattle.diagram.specs.Call.{tableOf}
+use Rattle.diagram.specs.Held.{held}
+use Rattle.table.specs.declared.Stop.{Stop}
 use Rattle.rules.specs.State.{State, valueAt, isInner, nodeNumbers}
 use Rattle.rules.specs.Arrive.{changed}
 use Rattle.rules.specs.Group.{ofGroup, inputChanged, disturbed, some, touched}
@@ -23,12 +24,13 @@ use Rattle.rules.specs.Run.{StoredAll, storeAll}
 use Rattle.rules.proofs.State.{rail-value}
 use Rattle.net.specs.Net.{lettersPlace, at, netCircuit}
 use Rattle.net.proofs.Laying.{nodes-length}
-use Rattle.walk.specs.Ready.{Net}
-use Rattle.table.specs.Holds.{columns}
+use Rattle.net.specs.Roots.{rootsLength, changePlace}
+use Rattle.plain.specs.Ready.{Net}
 use Rattle.functions.specs.Open.{Open}
 use Rattle.plain.specs.Shown.{changedAt, inputChangedAt, disturbedAt}
 use Rattle.plain.proofs.Values.{wired}
-use Rattle.descent.specs.Settle.{leafAt, pendingAfter}
+use Rattle.plain.specs.Settle.{pendingAfter}
+use Rattle.descent.specs.Settle.{leafAt}
 use Rattle.descent.proofs.Channels.{leaf-value}
 use Rattle.attempt.specs.Change.{pendingIn, beforeState, afterState, changeFrom}
 use Rattle.attempt.proofs.Prepared.{leaf-at}
@@ -84,7 +86,7 @@ module _ {net : List ℕ} (cell : Net net) {k : ℕ} {t : Table} {used : ℕ} {b
     abbrev then : State
     then = afterState c time numbers
 
-    entry-at : (j : ℕ) → j < 92 → getD numbers j 0 ≡ numberAt k t (getD entries j 0) p
+    entry-at : (j : ℕ) → j < rootsLength → getD numbers j 0 ≡ numberAt k t (getD entries j 0) p
     entry-at j h = leaf-at k t entries p j (omega (arith, entries-long before after change (e .first .long) (e .second .long)))
 
     before-value : (j : ℕ) → 2 ≤ j → j < 2 + length (c .nodes) → valueAt first j ≡ numberAt k t (getD before j 0) p
@@ -132,7 +134,7 @@ module _ {net : List ℕ} (cell : Net net) {k : ℕ} {t : Table} {used : ℕ} {b
     unfolding changeFrom
     from-rest quiet =
         ap (λ (b : Bool). cond b (nextChange c time then (kept c then) n) (pendingIn time numbers)) (and-last (isInner c n) (touched c first then n) (untouched quiet))
-        ∙ ap (pendingAfter time) (entry-at 52 (omega arith) ∙ ap (λ (x : ℕ). numberAt k t x p) (entries-change before after change (e .first .long) (e .second .long)))
+        ∙ ap (pendingAfter time) (entry-at changePlace (omega arith) ∙ ap (λ (x : ℕ). numberAt k t x p) (entries-change before after change (e .first .long) (e .second .long)))
 
     pub rest-change : (all : Bool) → (isInner (netCircuit net) n ≡ true → (all ≡ false) × (stirredFor (netCircuit net) before after n ≡ false))
         → restOf (netCircuit net) time k t pending n p ≡ changeOf (netCircuit net) time all k t before after pending n p
@@ -146,12 +148,12 @@ none-for c before after n =
 
 -- what is stored at rest is what is stored by the entries
 pub rest-stored : {net l w h ix : List ℕ} {used : ℕ} (cell : Net net) → Open (at net lettersPlace) l w h ix used → {before after pending : List ℕ}
-    (e : StepEntries (at net lettersPlace) (tableOf (columns l w h) used) used before after pending) (time : ℕ) {all : Bool} → all ≡ false → stirredBy (netCircuit net) before after ≡ false
-    → {l1 w1 h1 ix1 : List ℕ} {full : Bool} {most : ℕ} {out : List ℕ}
-    → OutcomeAll (tableOf (columns l w h) used) (storeAll (at net lettersPlace) (map (restOf (netCircuit net) time (at net lettersPlace) (tableOf (columns l w h) used) pending) (nodeNumbers (netCircuit net))) (tableOf (columns l w h) used)) l1 w1 h1 ix1 full most out
-    → OutcomeAll (tableOf (columns l w h) used) (storeAll (at net lettersPlace) (map (changeOf (netCircuit net) time all (at net lettersPlace) (tableOf (columns l w h) used) before after pending) (nodeNumbers (netCircuit net))) (tableOf (columns l w h) used)) l1 w1 h1 ix1 full most out
-rest-stored {net} {l} {w} {h} {used = used} cell o {before} {after} {pending} e time {all} off quiet {l1} {w1} {h1} {ix1} {full} {most} {out} =
-    let t : Table = tableOf (columns l w h) used in
-    subst (λ (s : StoredAll). OutcomeAll t s l1 w1 h1 ix1 full most out)
+    (e : StepEntries (at net lettersPlace) (held l w h used) used before after pending) (time : ℕ) {all : Bool} → all ≡ false → stirredBy (netCircuit net) before after ≡ false
+    → {l1 w1 h1 ix1 : List ℕ} {stop : Stop} {most : ℕ} {out : List ℕ}
+    → OutcomeAll (held l w h used) (storeAll (at net lettersPlace) (map (restOf (netCircuit net) time (at net lettersPlace) (held l w h used) pending) (nodeNumbers (netCircuit net))) (held l w h used)) l1 w1 h1 ix1 stop most out
+    → OutcomeAll (held l w h used) (storeAll (at net lettersPlace) (map (changeOf (netCircuit net) time all (at net lettersPlace) (held l w h used) before after pending) (nodeNumbers (netCircuit net))) (held l w h used)) l1 w1 h1 ix1 stop most out
+rest-stored {net} {l} {w} {h} {used = used} cell o {before} {after} {pending} e time {all} off quiet {l1} {w1} {h1} {ix1} {stop} {most} {out} =
+    let t : Table = held l w h used in
+    subst (λ (s : StoredAll). OutcomeAll t s l1 w1 h1 ix1 stop most out)
     (nodes-stored (at net lettersPlace) (restOf (netCircuit net) time (at net lettersPlace) t pending) (changeOf (netCircuit net) time all (at net lettersPlace) t before after pending) (length (netCircuit net .nodes)) t
     (λ n p least less q. rest-change cell e time n p all (λ _. (off, none-for (netCircuit net) before after n quiet))))

@@ -4,10 +4,10 @@ use mathlib.Core.List.{List, map}
 use mathlib.Core.Bool.{Bool, true, false, _||_, true≢false}
 use Prim.Native.Nat.{ℕ}
 use Rattle.format.specs.Circuit.{Circuit}
-use Rattle.diagram.specs.Call.{tableOf}
+use Rattle.diagram.specs.Held.{held}
+use Rattle.table.specs.declared.Stop.{Stop}
 use Rattle.rules.specs.State.{nodeNumbers}
 use Rattle.rules.specs.Run.{storeAll}
-use Rattle.table.specs.Holds.{columns}
 use Rattle.functions.specs.Open.{Open}
 use Rattle.values.specs.All.{OutcomeAll}
 use Rattle.changes.specs.Changes.{changeOf, PendingLeasts}
@@ -21,18 +21,18 @@ module _ {k used : ℕ} {l w h ix l1 w1 h1 ix1 : List ℕ} (same : Same l w h ix
   pub again-open : Open k l w h ix used → Open k l1 w1 h1 ix1 used
   again-open o = rw (same .0, same .1, same .2, same .3) o
 
-  pub again-entries : {before after pending : List ℕ} → StepEntries k (tableOf (columns l w h) used) used before after pending → StepEntries k (tableOf (columns l1 w1 h1) used) used before after pending
+  pub again-entries : {before after pending : List ℕ} → StepEntries k (held l w h used) used before after pending → StepEntries k (held l1 w1 h1 used) used before after pending
   again-entries e = rw (same .0, same .1, same .2) e
 
 -- and the least numbers
-pub again-leasts : (k used : ℕ) {l w h ix l1 w1 h1 ix1 : List ℕ} → Same l w h ix l1 w1 h1 ix1 → (pending least : List ℕ) → PendingLeasts k (tableOf (columns l w h) used) pending least → PendingLeasts k (tableOf (columns l1 w1 h1) used) pending least
+pub again-leasts : (k used : ℕ) {l w h ix l1 w1 h1 ix1 : List ℕ} → Same l w h ix l1 w1 h1 ix1 → (pending least : List ℕ) → PendingLeasts k (held l w h used) pending least → PendingLeasts k (held l1 w1 h1 used) pending least
 again-leasts k used same pending least s = rw (same .0, same .1, same .2) s
 
 -- what is stored by the same columns
 pub again-stored : (k used : ℕ) {l w h ix l1 w1 h1 ix1 : List ℕ} → Same l w h ix l1 w1 h1 ix1
-    → (c : Circuit) (time : ℕ) (all : Bool) (before after pending : List ℕ) {l2 w2 h2 ix2 : List ℕ} {full : Bool} {most : ℕ} {out : List ℕ}
-    → OutcomeAll (tableOf (columns l1 w1 h1) used) (storeAll k (map (changeOf c time all k (tableOf (columns l1 w1 h1) used) before after pending) (nodeNumbers c)) (tableOf (columns l1 w1 h1) used)) l2 w2 h2 ix2 full most out
-    → OutcomeAll (tableOf (columns l w h) used) (storeAll k (map (changeOf c time all k (tableOf (columns l w h) used) before after pending) (nodeNumbers c)) (tableOf (columns l w h) used)) l2 w2 h2 ix2 full most out
+    → (c : Circuit) (time : ℕ) (all : Bool) (before after pending : List ℕ) {l2 w2 h2 ix2 : List ℕ} {stop : Stop} {most : ℕ} {out : List ℕ}
+    → OutcomeAll (held l1 w1 h1 used) (storeAll k (map (changeOf c time all k (held l1 w1 h1 used) before after pending) (nodeNumbers c)) (held l1 w1 h1 used)) l2 w2 h2 ix2 stop most out
+    → OutcomeAll (held l w h used) (storeAll k (map (changeOf c time all k (held l w h used) before after pending) (nodeNumbers c)) (held l w h used)) l2 w2 h2 ix2 stop most out
 again-stored k used same c time all before after pending done = rw (same .0, same .1, same .2) at done
 
 -- nothing stored by the same columns

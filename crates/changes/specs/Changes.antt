@@ -9,12 +9,13 @@ use Rattle.format.specs.Circuit.{Circuit}
 use Rattle.diagram.specs.Pattern.{patterns}
 use Rattle.diagram.specs.Table.{Table, never, numberAt}
 use Rattle.rules.specs.State.{isInner}
-use Rattle.attempt.specs.Change.{numbersLength, changeBy}
+use Rattle.net.specs.Roots.{rootsLength}
+use Rattle.attempt.specs.Change.{changeBy}
 use Rattle.record.specs.Leasts.{Leasts}
 
 -- the entries by which a node with a pending change is evaluated
 abbrev pub entriesWith : List ℕ → List ℕ → ℕ → List ℕ
-entriesWith before after change = padded numbersLength 0 (before ++ after ++ change ∷ [])
+entriesWith before after change = padded rootsLength 0 (before ++ after ++ change ∷ [])
 
 -- those of node n
 abbrev pub entriesFor : List ℕ → List ℕ → List ℕ → ℕ → List ℕ

@@ -10,7 +10,7 @@ use Rattle.diagram.specs.Table.{Table}
 use Rattle.rules.specs.State.{isInner}
 use Rattle.rules.specs.Group.{labelAt, groups}
 use Rattle.net.specs.Net.{transistorsPlace, at, netTransistor, netCircuit}
-use Rattle.walk.specs.Ready.{Noded}
+use Rattle.plain.specs.Ready.{Noded}
 use Rattle.plain.specs.Shown.{disturbedAt}
 use Rattle.prepare.specs.Steps.{groupOf}
 use Rattle.changes.specs.ByRoots.{settledFor}

@@ -9,7 +9,7 @@ use Rattle.diagram.specs.Table.{Table, never, numberAt}
 use Rattle.rules.specs.State.{isInner}
 use Rattle.rules.specs.Group.{ofGroup, some}
 use Rattle.plain.specs.Shown.{disturbedAt}
-use Rattle.descent.specs.Settle.{pendingAfter}
+use Rattle.plain.specs.Settle.{pendingAfter}
 
 -- some transistor has a gate, or an input at a channel end, whose entries before and after T differ
 abbrev pub stirredBy : Circuit → List ℕ → List ℕ → Bool

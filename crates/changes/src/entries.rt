@@ -2,34 +2,39 @@
 use crate::NEVER;
 use evaluate::split::evaluate;
 use net::inner::is_inner;
+use net::roots::AFTER;
+use net::roots::CHANGE;
+use net::roots::ROOTS;
 use table::Put;
+use table::Stop;
+use table::stopped;
 use values::Many;
 ghost use mathlib.Core.Path.{_≡_};
 ghost use mathlib.Core.List.{map};
 ghost use Rattle.diagram.specs.Store.{store};
-ghost use Rattle.diagram.specs.Call.{tableOf};
-ghost use Rattle.table.specs.Holds.{columns, Sized, Outcome};
+ghost use Rattle.diagram.specs.Held.{held};
+ghost use Rattle.table.specs.Holds.{Sized, Outcome};
 ghost use Rattle.functions.specs.Open.{Open};
 ghost use Rattle.rules.specs.State.{nodeNumbers};
 ghost use Rattle.rules.specs.Run.{storeAll};
 ghost use Rattle.net.specs.Net.{lettersPlace, at as atPlace, netCircuit};
-ghost use Rattle.walk.specs.Ready.{Net, Noded};
+ghost use Rattle.plain.specs.Ready.{Net, Noded};
 ghost use Rattle.attempt.specs.Entries.{Evaluable};
 ghost use Rattle.values.specs.All.{OutcomeAll};
 ghost use Rattle.changes.specs.Changes.{entriesWith, changeWith, changeOf, ValueEntries, PendingEntries};
 
 // The entries by which a node with a pending change is evaluated.
-fn entries_with(before: [u32; 26], after: [u32; 26], change: u32) -> [u32; 92]
+fn entries_with(before: [u32; 26], after: [u32; 26], change: u32) -> [u32; ROOTS]
     ensures { λ r. ⌜ r ≡ entriesWith before after change ⌝ }
 {
-    let mut out = [0u32; 92];
+    let mut out = [0u32; ROOTS];
     let mut j = 0;
     while j < 26 {
         out[j] = before[j];
-        out[26 + j] = after[j];
+        out[AFTER + j] = after[j];
         j += 1;
     }
-    out[52] = change;
+    out[CHANGE] = change;
     out
 }
 
@@ -48,14 +53,14 @@ fn by_entries(
     time: u32,
     all: bool,
     n: u32,
-    entries: &[u32; 92],
+    entries: &[u32; ROOTS],
 ) -> Put
-    requires { ⌜ Net (now net) × Noded (now net) n × Open (atPlace (now net) lettersPlace) (now letter) (now low) (now high) (now index) used × Evaluable (atPlace (now net) lettersPlace) (tableOf (columns (now letter) (now low) (now high)) used) used (atPlace (now net) lettersPlace) (now entries) × Sized (now wletter) (now wlow) (now whigh) (now windex) ⌝ }
-    ensures { λ r. ⌜ Outcome (tableOf (columns (now (letter .entry)) (now (low .entry)) (now (high .entry))) used) (store (atPlace (now (net .entry)) lettersPlace) 0 (changeWith (netCircuit (now (net .entry))) time all (atPlace (now (net .entry)) lettersPlace) (tableOf (columns (now (letter .entry)) (now (low .entry)) (now (high .entry))) used) (now (entries .entry)) n) (tableOf (columns (now (letter .entry)) (now (low .entry)) (now (high .entry))) used)) (now (letter .exit)) (now (low .exit)) (now (high .exit)) (now (index .exit)) r ⌝ }
+    requires { ⌜ Net (now net) × Noded (now net) n × Open (atPlace (now net) lettersPlace) (now letter) (now low) (now high) (now index) used × Evaluable (atPlace (now net) lettersPlace) (held (now letter) (now low) (now high) used) used (atPlace (now net) lettersPlace) (now entries) × Sized (now wletter) (now wlow) (now whigh) (now windex) ⌝ }
+    ensures { λ r. ⌜ Outcome (held (now (letter .entry)) (now (low .entry)) (now (high .entry)) used) (store (atPlace (now (net .entry)) lettersPlace) 0 (changeWith (netCircuit (now (net .entry))) time all (atPlace (now (net .entry)) lettersPlace) (held (now (letter .entry)) (now (low .entry)) (now (high .entry)) used) (now (entries .entry)) n) (held (now (letter .entry)) (now (low .entry)) (now (high .entry)) used)) (now (letter .exit)) (now (low .exit)) (now (high .exit)) (now (index .exit)) r ⌝ }
 {
     if !is_inner(net, n) {
         return Put {
-            full: false,
+            stop: Stop::Going,
             entry: NEVER,
             used,
         };
@@ -99,8 +104,8 @@ pub fn all_by_entries(
     pending: [u32; 26],
 ) -> Many
     requires { ⌜ Net (now net) × Open (atPlace (now net) lettersPlace) (now letter) (now low) (now high) (now index) used × Sized (now wletter) (now wlow) (now whigh) (now windex) ⌝ }
-    requires { ⌜ ValueEntries (atPlace (now net) lettersPlace) (tableOf (columns (now letter) (now low) (now high)) used) used before × ValueEntries (atPlace (now net) lettersPlace) (tableOf (columns (now letter) (now low) (now high)) used) used after × PendingEntries used pending ⌝ }
-    ensures { λ r. ⌜ OutcomeAll (tableOf (columns (now (letter .entry)) (now (low .entry)) (now (high .entry))) used) (storeAll (atPlace (now (net .entry)) lettersPlace) (map (changeOf (netCircuit (now (net .entry))) time all (atPlace (now (net .entry)) lettersPlace) (tableOf (columns (now (letter .entry)) (now (low .entry)) (now (high .entry))) used) before after pending) (nodeNumbers (netCircuit (now (net .entry))))) (tableOf (columns (now (letter .entry)) (now (low .entry)) (now (high .entry))) used)) (now (letter .exit)) (now (low .exit)) (now (high .exit)) (now (index .exit)) (r .full) (r .used) (r .entries) ⌝ }
+    requires { ⌜ ValueEntries (atPlace (now net) lettersPlace) (held (now letter) (now low) (now high) used) used before × ValueEntries (atPlace (now net) lettersPlace) (held (now letter) (now low) (now high) used) used after × PendingEntries used pending ⌝ }
+    ensures { λ r. ⌜ OutcomeAll (held (now (letter .entry)) (now (low .entry)) (now (high .entry)) used) (storeAll (atPlace (now (net .entry)) lettersPlace) (map (changeOf (netCircuit (now (net .entry))) time all (atPlace (now (net .entry)) lettersPlace) (held (now (letter .entry)) (now (low .entry)) (now (high .entry)) used) before after pending) (nodeNumbers (netCircuit (now (net .entry))))) (held (now (letter .entry)) (now (low .entry)) (now (high .entry)) used)) (now (letter .exit)) (now (low .exit)) (now (high .exit)) (now (index .exit)) (r .stop) (r .used) (r .entries) ⌝ }
 {
     let count = net[net::NODES] as usize;
     let mut out = [0u32; 24];
@@ -124,9 +129,10 @@ pub fn all_by_entries(
             i as u32 + 2,
             &entries,
         );
-        if p.full {
+        let why = p.stop;
+        if stopped(why) {
             return Many {
-                full: true,
+                stop: why,
                 used: now,
                 entries: out,
             };
@@ -136,7 +142,7 @@ pub fn all_by_entries(
         i += 1;
     }
     Many {
-        full: false,
+        stop: Stop::Going,
         used: now,
         entries: out,
     }

@@ -4,12 +4,13 @@ use crate::stir::masked;
 use attempt::MOST;
 use attempt::smaller;
 use prepare::prepare;
+use table::Stop;
+use table::stopped;
 use values::Many;
 ghost use mathlib.Core.Path.{_≡_};
 ghost use mathlib.Core.Bool.{true, false};
 ghost use mathlib.Core.List.{map};
-ghost use Rattle.diagram.specs.Call.{tableOf};
-ghost use Rattle.table.specs.Holds.{columns, Sized};
+ghost use Rattle.table.specs.Holds.{Sized};
 ghost use Rattle.functions.specs.Open.{Open};
 ghost use Rattle.rules.specs.State.{nodeNumbers};
 ghost use Rattle.rules.specs.Run.{storeAll};
@@ -18,6 +19,7 @@ ghost use Rattle.net.specs.Laid.{Laid};
 ghost use Rattle.values.specs.All.{OutcomeAll};
 ghost use Rattle.changes.specs.Changes.{changeOf, ValueEntries, PendingEntries, PendingLeasts};
 ghost use Rattle.changes.specs.Mixed.{NodeMarks};
+ghost use Rattle.diagram.specs.Held.{held};
 
 // What was stored, unless working had no room.
 pub struct Tried {
@@ -46,8 +48,8 @@ fn try_in(
     least: &[u32],
 ) -> Tried
     requires { ⌜ Laid (netCircuit (now net)) (now net) × Open (atPlace (now net) lettersPlace) (now letter) (now low) (now high) (now index) used × Sized (now wletter) (now wlow) (now whigh) (now windex) ⌝ }
-    requires { ⌜ ValueEntries (atPlace (now net) lettersPlace) (tableOf (columns (now letter) (now low) (now high)) used) used before × ValueEntries (atPlace (now net) lettersPlace) (tableOf (columns (now letter) (now low) (now high)) used) used after × PendingEntries used pending × NodeMarks (now net) before after all marks × PendingLeasts (atPlace (now net) lettersPlace) (tableOf (columns (now letter) (now low) (now high)) used) pending (now least) ⌝ }
-    ensures { λ r. ⌜ (r .done ≡ true → OutcomeAll (tableOf (columns (now (letter .entry)) (now (low .entry)) (now (high .entry))) used) (storeAll (atPlace (now (net .entry)) lettersPlace) (map (changeOf (netCircuit (now (net .entry))) time all (atPlace (now (net .entry)) lettersPlace) (tableOf (columns (now (letter .entry)) (now (low .entry)) (now (high .entry))) used) before after pending) (nodeNumbers (netCircuit (now (net .entry))))) (tableOf (columns (now (letter .entry)) (now (low .entry)) (now (high .entry))) used)) (now (letter .exit)) (now (low .exit)) (now (high .exit)) (now (index .exit)) (r .many .full) (r .many .used) (r .many .entries)) × (r .done ≡ false → (now (letter .exit) ≡ now (letter .entry)) × (now (low .exit) ≡ now (low .entry)) × (now (high .exit) ≡ now (high .entry)) × (now (index .exit) ≡ now (index .entry))) ⌝ }
+    requires { ⌜ ValueEntries (atPlace (now net) lettersPlace) (held (now letter) (now low) (now high) used) used before × ValueEntries (atPlace (now net) lettersPlace) (held (now letter) (now low) (now high) used) used after × PendingEntries used pending × NodeMarks (now net) before after all marks × PendingLeasts (atPlace (now net) lettersPlace) (held (now letter) (now low) (now high) used) pending (now least) ⌝ }
+    ensures { λ r. ⌜ (r .done ≡ true → OutcomeAll (held (now (letter .entry)) (now (low .entry)) (now (high .entry)) used) (storeAll (atPlace (now (net .entry)) lettersPlace) (map (changeOf (netCircuit (now (net .entry))) time all (atPlace (now (net .entry)) lettersPlace) (held (now (letter .entry)) (now (low .entry)) (now (high .entry)) used) before after pending) (nodeNumbers (netCircuit (now (net .entry))))) (held (now (letter .entry)) (now (low .entry)) (now (high .entry)) used)) (now (letter .exit)) (now (low .exit)) (now (high .exit)) (now (index .exit)) (r .many .stop) (r .many .used) (r .many .entries)) × (r .done ≡ false → (now (letter .exit) ≡ now (letter .entry)) × (now (low .exit) ≡ now (low .entry)) × (now (high .exit) ≡ now (high .entry)) × (now (index .exit) ≡ now (index .entry))) ⌝ }
 {
     let k = net[net::LETTERS];
     let left = masked(marks, pending);
@@ -68,11 +70,12 @@ fn try_in(
         all,
         0,
     );
-    if q.full {
+    let why = q.stop;
+    if stopped(why) {
         return Tried {
             done: false,
             many: Many {
-                full: false,
+                stop: Stop::Going,
                 used,
                 entries: [0u32; 24],
             },
@@ -120,8 +123,8 @@ fn try_first(
     least: &[u32],
 ) -> Tried
     requires { ⌜ Laid (netCircuit (now net)) (now net) × Open (atPlace (now net) lettersPlace) (now letter) (now low) (now high) (now index) used × Sized (now wletter) (now wlow) (now whigh) (now windex) ⌝ }
-    requires { ⌜ ValueEntries (atPlace (now net) lettersPlace) (tableOf (columns (now letter) (now low) (now high)) used) used before × ValueEntries (atPlace (now net) lettersPlace) (tableOf (columns (now letter) (now low) (now high)) used) used after × PendingEntries used pending × NodeMarks (now net) before after all marks × PendingLeasts (atPlace (now net) lettersPlace) (tableOf (columns (now letter) (now low) (now high)) used) pending (now least) ⌝ }
-    ensures { λ r. ⌜ (r .done ≡ true → OutcomeAll (tableOf (columns (now (letter .entry)) (now (low .entry)) (now (high .entry))) used) (storeAll (atPlace (now (net .entry)) lettersPlace) (map (changeOf (netCircuit (now (net .entry))) time all (atPlace (now (net .entry)) lettersPlace) (tableOf (columns (now (letter .entry)) (now (low .entry)) (now (high .entry))) used) before after pending) (nodeNumbers (netCircuit (now (net .entry))))) (tableOf (columns (now (letter .entry)) (now (low .entry)) (now (high .entry))) used)) (now (letter .exit)) (now (low .exit)) (now (high .exit)) (now (index .exit)) (r .many .full) (r .many .used) (r .many .entries)) × (r .done ≡ false → (now (letter .exit) ≡ now (letter .entry)) × (now (low .exit) ≡ now (low .entry)) × (now (high .exit) ≡ now (high .entry)) × (now (index .exit) ≡ now (index .entry))) ⌝ }
+    requires { ⌜ ValueEntries (atPlace (now net) lettersPlace) (held (now letter) (now low) (now high) used) used before × ValueEntries (atPlace (now net) lettersPlace) (held (now letter) (now low) (now high) used) used after × PendingEntries used pending × NodeMarks (now net) before after all marks × PendingLeasts (atPlace (now net) lettersPlace) (held (now letter) (now low) (now high) used) pending (now least) ⌝ }
+    ensures { λ r. ⌜ (r .done ≡ true → OutcomeAll (held (now (letter .entry)) (now (low .entry)) (now (high .entry)) used) (storeAll (atPlace (now (net .entry)) lettersPlace) (map (changeOf (netCircuit (now (net .entry))) time all (atPlace (now (net .entry)) lettersPlace) (held (now (letter .entry)) (now (low .entry)) (now (high .entry)) used) before after pending) (nodeNumbers (netCircuit (now (net .entry))))) (held (now (letter .entry)) (now (low .entry)) (now (high .entry)) used)) (now (letter .exit)) (now (low .exit)) (now (high .exit)) (now (index .exit)) (r .many .stop) (r .many .used) (r .many .entries)) × (r .done ≡ false → (now (letter .exit) ≡ now (letter .entry)) × (now (low .exit) ≡ now (low .entry)) × (now (high .exit) ≡ now (high .entry)) × (now (index .exit) ≡ now (index .entry))) ⌝ }
 {
     let size = smaller(wletter.len());
     let places = 2 * size;
@@ -167,8 +170,8 @@ pub fn by_functions(
     least: &[u32],
 ) -> Tried
     requires { ⌜ Laid (netCircuit (now net)) (now net) × Open (atPlace (now net) lettersPlace) (now letter) (now low) (now high) (now index) used × Sized (now wletter) (now wlow) (now whigh) (now windex) ⌝ }
-    requires { ⌜ ValueEntries (atPlace (now net) lettersPlace) (tableOf (columns (now letter) (now low) (now high)) used) used before × ValueEntries (atPlace (now net) lettersPlace) (tableOf (columns (now letter) (now low) (now high)) used) used after × PendingEntries used pending × NodeMarks (now net) before after all marks × PendingLeasts (atPlace (now net) lettersPlace) (tableOf (columns (now letter) (now low) (now high)) used) pending (now least) ⌝ }
-    ensures { λ r. ⌜ (r .done ≡ true → OutcomeAll (tableOf (columns (now (letter .entry)) (now (low .entry)) (now (high .entry))) used) (storeAll (atPlace (now (net .entry)) lettersPlace) (map (changeOf (netCircuit (now (net .entry))) time all (atPlace (now (net .entry)) lettersPlace) (tableOf (columns (now (letter .entry)) (now (low .entry)) (now (high .entry))) used) before after pending) (nodeNumbers (netCircuit (now (net .entry))))) (tableOf (columns (now (letter .entry)) (now (low .entry)) (now (high .entry))) used)) (now (letter .exit)) (now (low .exit)) (now (high .exit)) (now (index .exit)) (r .many .full) (r .many .used) (r .many .entries)) × (r .done ≡ false → (now (letter .exit) ≡ now (letter .entry)) × (now (low .exit) ≡ now (low .entry)) × (now (high .exit) ≡ now (high .entry)) × (now (index .exit) ≡ now (index .entry))) ⌝ }
+    requires { ⌜ ValueEntries (atPlace (now net) lettersPlace) (held (now letter) (now low) (now high) used) used before × ValueEntries (atPlace (now net) lettersPlace) (held (now letter) (now low) (now high) used) used after × PendingEntries used pending × NodeMarks (now net) before after all marks × PendingLeasts (atPlace (now net) lettersPlace) (held (now letter) (now low) (now high) used) pending (now least) ⌝ }
+    ensures { λ r. ⌜ (r .done ≡ true → OutcomeAll (held (now (letter .entry)) (now (low .entry)) (now (high .entry)) used) (storeAll (atPlace (now (net .entry)) lettersPlace) (map (changeOf (netCircuit (now (net .entry))) time all (atPlace (now (net .entry)) lettersPlace) (held (now (letter .entry)) (now (low .entry)) (now (high .entry)) used) before after pending) (nodeNumbers (netCircuit (now (net .entry))))) (held (now (letter .entry)) (now (low .entry)) (now (high .entry)) used)) (now (letter .exit)) (now (low .exit)) (now (high .exit)) (now (index .exit)) (r .many .stop) (r .many .used) (r .many .entries)) × (r .done ≡ false → (now (letter .exit) ≡ now (letter .entry)) × (now (low .exit) ≡ now (low .entry)) × (now (high .exit) ≡ now (high .entry)) × (now (index .exit) ≡ now (index .entry))) ⌝ }
 {
     let first = try_first(
         net,

@@ -1,21 +1,23 @@
 // Next changes where nothing was stirred: the pending ones with T taken out.
 use crate::NEVER;
-use descent::settle::pending_after;
 use functions::numbers::TERMINAL;
 use functions::step::join;
 use net::inner::is_inner;
+use plain::settle::pending_after;
 use table::Put;
+use table::Stop;
+use table::stopped;
 use values::Many;
 ghost use mathlib.Core.List.{map};
 ghost use Prim.Native.Nat.{suc, _<_};
 ghost use Rattle.diagram.specs.Store.{store};
-ghost use Rattle.diagram.specs.Call.{tableOf};
-ghost use Rattle.table.specs.Holds.{columns, Outcome};
+ghost use Rattle.diagram.specs.Held.{held};
+ghost use Rattle.table.specs.Holds.{Outcome};
 ghost use Rattle.functions.specs.Open.{Open, Operand};
 ghost use Rattle.rules.specs.State.{nodeNumbers};
 ghost use Rattle.rules.specs.Run.{storeAll};
 ghost use Rattle.net.specs.Net.{lettersPlace, at as atPlace, netCircuit};
-ghost use Rattle.walk.specs.Ready.{Net, Noded};
+ghost use Rattle.plain.specs.Ready.{Net, Noded};
 ghost use Rattle.record.specs.Leasts.{Leasts};
 ghost use Rattle.values.specs.All.{OutcomeAll};
 ghost use Rattle.changes.specs.Changes.{PendingEntries, PendingLeasts};
@@ -34,14 +36,14 @@ fn past(
     left: u32,
     least: &[u32],
 ) -> Put
-    requires { ⌜ Open k (now letter) (now low) (now high) (now index) used × Operand k (tableOf (columns (now letter) (now low) (now high)) used) used left e × Leasts k (tableOf (columns (now letter) (now low) (now high)) used) (suc e) (now least) ⌝ }
-    ensures { λ r. ⌜ Outcome (tableOf (columns (now (letter .entry)) (now (low .entry)) (now (high .entry))) used) (store k 0 (pastOf time k (tableOf (columns (now (letter .entry)) (now (low .entry)) (now (high .entry))) used) e) (tableOf (columns (now (letter .entry)) (now (low .entry)) (now (high .entry))) used)) (now (letter .exit)) (now (low .exit)) (now (high .exit)) (now (index .exit)) r ⌝ }
+    requires { ⌜ Open k (now letter) (now low) (now high) (now index) used × Operand k (held (now letter) (now low) (now high) used) used left e × Leasts k (held (now letter) (now low) (now high) used) (suc e) (now least) ⌝ }
+    ensures { λ r. ⌜ Outcome (held (now (letter .entry)) (now (low .entry)) (now (high .entry)) used) (store k 0 (pastOf time k (held (now (letter .entry)) (now (low .entry)) (now (high .entry)) used) e) (held (now (letter .entry)) (now (low .entry)) (now (high .entry)) used)) (now (letter .exit)) (now (low .exit)) (now (high .exit)) (now (index .exit)) r ⌝ }
 {
     let i = e as usize;
     let first = least[i];
     if time < first {
         return Put {
-            full: false,
+            stop: Stop::Going,
             entry: e,
             used,
         };
@@ -54,7 +56,8 @@ fn past(
         return table::add(letter, low, high, index, used, TERMINAL, v, 0);
     }
     let p = past(letter, low, high, index, used, k, time, a, left - 1, least);
-    if p.full {
+    let why = p.stop;
+    if stopped(why) {
         return p;
     }
     let q = past(
@@ -69,7 +72,8 @@ fn past(
         left - 1,
         least,
     );
-    if q.full {
+    let why = q.stop;
+    if stopped(why) {
         return q;
     }
     join(letter, low, high, index, q.used, m, p.entry, q.entry)
@@ -88,12 +92,12 @@ pub fn at_rest(
     e: u32,
     least: &[u32],
 ) -> Put
-    requires { ⌜ Net (now net) × Noded (now net) n × Open (atPlace (now net) lettersPlace) (now letter) (now low) (now high) (now index) used × (e < used) × Leasts (atPlace (now net) lettersPlace) (tableOf (columns (now letter) (now low) (now high)) used) (suc e) (now least) ⌝ }
-    ensures { λ r. ⌜ Outcome (tableOf (columns (now (letter .entry)) (now (low .entry)) (now (high .entry))) used) (store (atPlace (now (net .entry)) lettersPlace) 0 (restWith (netCircuit (now (net .entry))) time (atPlace (now (net .entry)) lettersPlace) (tableOf (columns (now (letter .entry)) (now (low .entry)) (now (high .entry))) used) e n) (tableOf (columns (now (letter .entry)) (now (low .entry)) (now (high .entry))) used)) (now (letter .exit)) (now (low .exit)) (now (high .exit)) (now (index .exit)) r ⌝ }
+    requires { ⌜ Net (now net) × Noded (now net) n × Open (atPlace (now net) lettersPlace) (now letter) (now low) (now high) (now index) used × (e < used) × Leasts (atPlace (now net) lettersPlace) (held (now letter) (now low) (now high) used) (suc e) (now least) ⌝ }
+    ensures { λ r. ⌜ Outcome (held (now (letter .entry)) (now (low .entry)) (now (high .entry)) used) (store (atPlace (now (net .entry)) lettersPlace) 0 (restWith (netCircuit (now (net .entry))) time (atPlace (now (net .entry)) lettersPlace) (held (now (letter .entry)) (now (low .entry)) (now (high .entry)) used) e n) (held (now (letter .entry)) (now (low .entry)) (now (high .entry)) used)) (now (letter .exit)) (now (low .exit)) (now (high .exit)) (now (index .exit)) r ⌝ }
 {
     if !is_inner(net, n) {
         return Put {
-            full: false,
+            stop: Stop::Going,
             entry: NEVER,
             used,
         };
@@ -114,8 +118,8 @@ pub fn all_at_rest(
     pending: [u32; 26],
     least: &[u32],
 ) -> Many
-    requires { ⌜ Net (now net) × Open (atPlace (now net) lettersPlace) (now letter) (now low) (now high) (now index) used × PendingEntries used pending × PendingLeasts (atPlace (now net) lettersPlace) (tableOf (columns (now letter) (now low) (now high)) used) pending (now least) ⌝ }
-    ensures { λ r. ⌜ OutcomeAll (tableOf (columns (now (letter .entry)) (now (low .entry)) (now (high .entry))) used) (storeAll (atPlace (now (net .entry)) lettersPlace) (map (restOf (netCircuit (now (net .entry))) time (atPlace (now (net .entry)) lettersPlace) (tableOf (columns (now (letter .entry)) (now (low .entry)) (now (high .entry))) used) pending) (nodeNumbers (netCircuit (now (net .entry))))) (tableOf (columns (now (letter .entry)) (now (low .entry)) (now (high .entry))) used)) (now (letter .exit)) (now (low .exit)) (now (high .exit)) (now (index .exit)) (r .full) (r .used) (r .entries) ⌝ }
+    requires { ⌜ Net (now net) × Open (atPlace (now net) lettersPlace) (now letter) (now low) (now high) (now index) used × PendingEntries used pending × PendingLeasts (atPlace (now net) lettersPlace) (held (now letter) (now low) (now high) used) pending (now least) ⌝ }
+    ensures { λ r. ⌜ OutcomeAll (held (now (letter .entry)) (now (low .entry)) (now (high .entry)) used) (storeAll (atPlace (now (net .entry)) lettersPlace) (map (restOf (netCircuit (now (net .entry))) time (atPlace (now (net .entry)) lettersPlace) (held (now (letter .entry)) (now (low .entry)) (now (high .entry)) used) pending) (nodeNumbers (netCircuit (now (net .entry))))) (held (now (letter .entry)) (now (low .entry)) (now (high .entry)) used)) (now (letter .exit)) (now (low .exit)) (now (high .exit)) (now (index .exit)) (r .stop) (r .used) (r .entries) ⌝ }
 {
     let count = net[net::NODES] as usize;
     let mut out = [0u32; 24];
@@ -134,9 +138,10 @@ pub fn all_at_rest(
             pending[i + 2],
             least,
         );
-        if p.full {
+        let why = p.stop;
+        if stopped(why) {
             return Many {
-                full: true,
+                stop: why,
                 used: now,
                 entries: out,
             };
@@ -146,7 +151,7 @@ pub fn all_at_rest(
         i += 1;
     }
     Many {
-        full: false,
+        stop: Stop::Going,
         used: now,
         entries: out,
     }

@@ -4,18 +4,21 @@ use crate::rest::at_rest;
 use attempt::roots_for;
 use descent::descend::descend;
 use net::inner::is_inner;
+use net::roots::ALL_ROOTS;
 use table::Put;
+use table::Stop;
+use table::stopped;
 use values::Many;
 ghost use mathlib.Core.List.{map};
 ghost use Prim.Native.Nat.{suc, _<_};
 ghost use Rattle.diagram.specs.Store.{store};
-ghost use Rattle.diagram.specs.Call.{tableOf};
-ghost use Rattle.table.specs.Holds.{columns, Outcome};
+ghost use Rattle.diagram.specs.Held.{held};
+ghost use Rattle.table.specs.Holds.{Outcome};
 ghost use Rattle.functions.specs.Open.{Open};
 ghost use Rattle.rules.specs.State.{nodeNumbers};
 ghost use Rattle.rules.specs.Run.{storeAll};
 ghost use Rattle.net.specs.Net.{lettersPlace, at as atPlace, netCircuit};
-ghost use Rattle.walk.specs.Ready.{Noded};
+ghost use Rattle.plain.specs.Ready.{Noded};
 ghost use Rattle.record.specs.Leasts.{Leasts};
 ghost use Rattle.values.specs.All.{OutcomeAll};
 ghost use Rattle.changes.specs.Changes.{PendingEntries, PendingLeasts};
@@ -36,14 +39,14 @@ fn by_roots(
     used: u32,
     time: u32,
     n: u32,
-    roots: [u32; 142],
+    roots: [u32; ALL_ROOTS],
 ) -> Put
     requires { ⌜ StepRoots (now net) (now wletter) (now wlow) (now whigh) wused roots × Noded (now net) n × Open (atPlace (now net) lettersPlace) (now letter) (now low) (now high) (now index) used ⌝ }
-    ensures { λ r. ⌜ Outcome (tableOf (columns (now (letter .entry)) (now (low .entry)) (now (high .entry))) used) (store (atPlace (now (net .entry)) lettersPlace) 0 (settledFor (netCircuit (now (net .entry))) time (atPlace (now (net .entry)) lettersPlace) (tableOf (columns (now (wletter .entry)) (now (wlow .entry)) (now (whigh .entry))) wused) roots n) (tableOf (columns (now (letter .entry)) (now (low .entry)) (now (high .entry))) used)) (now (letter .exit)) (now (low .exit)) (now (high .exit)) (now (index .exit)) r ⌝ }
+    ensures { λ r. ⌜ Outcome (held (now (letter .entry)) (now (low .entry)) (now (high .entry)) used) (store (atPlace (now (net .entry)) lettersPlace) 0 (settledFor (netCircuit (now (net .entry))) time (atPlace (now (net .entry)) lettersPlace) (held (now (wletter .entry)) (now (wlow .entry)) (now (whigh .entry)) wused) roots n) (held (now (letter .entry)) (now (low .entry)) (now (high .entry)) used)) (now (letter .exit)) (now (low .exit)) (now (high .exit)) (now (index .exit)) r ⌝ }
 {
     if !is_inner(net, n) {
         return Put {
-            full: false,
+            stop: Stop::Going,
             entry: NEVER,
             used,
         };
@@ -83,13 +86,13 @@ fn by_mark(
     used: u32,
     time: u32,
     n: u32,
-    roots: [u32; 142],
+    roots: [u32; ALL_ROOTS],
     mark: u32,
     e: u32,
     least: &[u32],
 ) -> Put
-    requires { ⌜ StepRoots (now net) (now wletter) (now wlow) (now whigh) wused roots × Noded (now net) n × Open (atPlace (now net) lettersPlace) (now letter) (now low) (now high) (now index) used × (e < used) × Leasts (atPlace (now net) lettersPlace) (tableOf (columns (now letter) (now low) (now high)) used) (suc e) (now least) ⌝ }
-    ensures { λ r. ⌜ Outcome (tableOf (columns (now (letter .entry)) (now (low .entry)) (now (high .entry))) used) (store (atPlace (now (net .entry)) lettersPlace) 0 (mixedWith (netCircuit (now (net .entry))) time (atPlace (now (net .entry)) lettersPlace) (tableOf (columns (now (letter .entry)) (now (low .entry)) (now (high .entry))) used) (tableOf (columns (now (wletter .entry)) (now (wlow .entry)) (now (whigh .entry))) wused) roots mark e n) (tableOf (columns (now (letter .entry)) (now (low .entry)) (now (high .entry))) used)) (now (letter .exit)) (now (low .exit)) (now (high .exit)) (now (index .exit)) r ⌝ }
+    requires { ⌜ StepRoots (now net) (now wletter) (now wlow) (now whigh) wused roots × Noded (now net) n × Open (atPlace (now net) lettersPlace) (now letter) (now low) (now high) (now index) used × (e < used) × Leasts (atPlace (now net) lettersPlace) (held (now letter) (now low) (now high) used) (suc e) (now least) ⌝ }
+    ensures { λ r. ⌜ Outcome (held (now (letter .entry)) (now (low .entry)) (now (high .entry)) used) (store (atPlace (now (net .entry)) lettersPlace) 0 (mixedWith (netCircuit (now (net .entry))) time (atPlace (now (net .entry)) lettersPlace) (held (now (letter .entry)) (now (low .entry)) (now (high .entry)) used) (held (now (wletter .entry)) (now (wlow .entry)) (now (whigh .entry)) wused) roots mark e n) (held (now (letter .entry)) (now (low .entry)) (now (high .entry)) used)) (now (letter .exit)) (now (low .exit)) (now (high .exit)) (now (index .exit)) r ⌝ }
 {
     if mark == 0 {
         return at_rest(net, letter, low, high, index, used, time, n, e, least);
@@ -124,13 +127,13 @@ pub fn all_by_marks(
     index: &mut [u32],
     used: u32,
     time: u32,
-    roots: [u32; 142],
+    roots: [u32; ALL_ROOTS],
     marks: [u32; 26],
     pending: [u32; 26],
     least: &[u32],
 ) -> Many
-    requires { ⌜ StepRoots (now net) (now wletter) (now wlow) (now whigh) wused roots × Open (atPlace (now net) lettersPlace) (now letter) (now low) (now high) (now index) used × PendingEntries used pending × PendingLeasts (atPlace (now net) lettersPlace) (tableOf (columns (now letter) (now low) (now high)) used) pending (now least) ⌝ }
-    ensures { λ r. ⌜ OutcomeAll (tableOf (columns (now (letter .entry)) (now (low .entry)) (now (high .entry))) used) (storeAll (atPlace (now (net .entry)) lettersPlace) (map (mixedOf (netCircuit (now (net .entry))) time (atPlace (now (net .entry)) lettersPlace) (tableOf (columns (now (letter .entry)) (now (low .entry)) (now (high .entry))) used) (tableOf (columns (now (wletter .entry)) (now (wlow .entry)) (now (whigh .entry))) wused) roots marks pending) (nodeNumbers (netCircuit (now (net .entry))))) (tableOf (columns (now (letter .entry)) (now (low .entry)) (now (high .entry))) used)) (now (letter .exit)) (now (low .exit)) (now (high .exit)) (now (index .exit)) (r .full) (r .used) (r .entries) ⌝ }
+    requires { ⌜ StepRoots (now net) (now wletter) (now wlow) (now whigh) wused roots × Open (atPlace (now net) lettersPlace) (now letter) (now low) (now high) (now index) used × PendingEntries used pending × PendingLeasts (atPlace (now net) lettersPlace) (held (now letter) (now low) (now high) used) pending (now least) ⌝ }
+    ensures { λ r. ⌜ OutcomeAll (held (now (letter .entry)) (now (low .entry)) (now (high .entry)) used) (storeAll (atPlace (now (net .entry)) lettersPlace) (map (mixedOf (netCircuit (now (net .entry))) time (atPlace (now (net .entry)) lettersPlace) (held (now (letter .entry)) (now (low .entry)) (now (high .entry)) used) (held (now (wletter .entry)) (now (wlow .entry)) (now (whigh .entry)) wused) roots marks pending) (nodeNumbers (netCircuit (now (net .entry))))) (held (now (letter .entry)) (now (low .entry)) (now (high .entry)) used)) (now (letter .exit)) (now (low .exit)) (now (high .exit)) (now (index .exit)) (r .stop) (r .used) (r .entries) ⌝ }
 {
     let count = net[net::NODES] as usize;
     let mut out = [0u32; 24];
@@ -155,9 +158,10 @@ pub fn all_by_marks(
             pending[i + 2],
             least,
         );
-        if p.full {
+        let why = p.stop;
+        if stopped(why) {
             return Many {
-                full: true,
+                stop: why,
                 used: now,
                 entries: out,
             };
@@ -167,7 +171,7 @@ pub fn all_by_marks(
         i += 1;
     }
     Many {
-        full: false,
+        stop: Stop::Going,
         used: now,
         entries: out,
     }

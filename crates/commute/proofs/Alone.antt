@@ -47,6 +47,11 @@ pub record Reads (c : Circuit) (m : Moment) (p : ℕ) (a : Alone) : Type 0 where
   pub behind : a .time ≤ m .run .time
   pub last : m .run .time < ownTime c a
 
+-- what is due for the pattern alone is due for it in the moment
+pub reads-own : {c : Circuit} {m : Moment} {p : ℕ} {a : Alone} → Reads c m p a → ownTime c a ≡ patternTime c (m .run .time) (stateAt c m p)
+reads-own {c} {m} {p} {a} r =
+    pattern-from c (a .time) (m .run .time) (a .state) (r .behind) (r .last) ∙ ap (patternTime c (m .run .time)) (sym (r .state))
+
 module _ (c : Circuit) (legal : checkCircuit c ≡ answered c) where
   -- nothing that is due for a pattern of a sound moment is past
   own-later : {m : Moment} → SoundMoment c m → (p : ℕ) → p < patterns (c .letters) → m .run .time < patternTime c (m .run .time) (stateAt c m p)
@@ -72,8 +77,7 @@ module _ (c : Circuit) (legal : checkCircuit c ≡ answered c) where
   reads-step {m} s more p h a₀ n r =
       let a : Alone = stepsAlone c p a₀ n in
       let time : ℕ = timeAfter c m in
-      let own : ownTime c a ≡ patternTime c (m .run .time) (stateAt c m p) =
-      pattern-from c (a .time) (m .run .time) (a .state) (r .behind) (r .last) ∙ ap (patternTime c (m .run .time)) (sym (r .state)) in
+      let own = reads-own r in
       let least : time ≤ patternTime c (m .run .time) (stateAt c m p) = next-least c (m .run .time) (stateAt c m) p h in
       let now : m .run .time < time = time-within legal s more .0 in
       ⊎-elim
@@ -111,7 +115,7 @@ pub reads-alone : {c : Circuit} {size : ℕ} {from m : Moment} → Ground c size
     → (n : ℕ) × Reads c m p (stepsAlone c p (aloneAt c from p) n)
 unfolding stepsAlone
 reads-alone {c} {from = from} g begun p h = (0, reads-now c (g .legal) (g .sound) p h (aloneAt c from p) refl refl)
-reads-alone {c} {from = from} g (next {m = m} t more room) p h =
+reads-alone {c} {from = from} g (next {m = m} t more admitted) p h =
     let deeper : (n : ℕ) × Reads c m p (stepsAlone c p (aloneAt c from p) n) = reads-alone g t p h in
     reads-step c (g .legal) (trace-sound g t) more p h (aloneAt c from p) (deeper .0) (deeper .1)
 
@@ -180,7 +184,7 @@ module _ (c : Circuit) (legal : checkCircuit c ≡ answered c) (plain : withoutL
       → AlikeAt c m × (n : ℕ) × ((p : ℕ) → p < patterns (c .letters) → aloneAt c m p ≡ stepsAlone c p (aloneAt c from p) n)
   unfolding stepsAlone
   plain-steps g alike begun = (alike, 0, λ p h. refl)
-  plain-steps {from = from} g alike (next {m = m} t more room) =
+  plain-steps {from = from} g alike (next {m = m} t more admitted) =
       let deeper : AlikeAt c m × (n : ℕ) × ((p : ℕ) → p < patterns (c .letters) → aloneAt c m p ≡ stepsAlone c p (aloneAt c from p) n) = plain-steps g alike t in
       let s = trace-sound g t in (
         plain-alike s (deeper .0),

@@ -12,17 +12,19 @@ use Rattle.refusal.proofs.Answer.{check-passed}
 use Rattle.format.specs.Circuit.{Circuit}
 use Rattle.format.specs.Legal.{checkCircuit}
 use Rattle.diagram.specs.Store.{Stored, stored, fresh}
-use Rattle.diagram.specs.Call.{Columns, leastEntries, mostEntries, lengthsLegal, tableOf, columnsOf, freshCall, columnsAfter}
+use Rattle.diagram.specs.Call.{Columns, lengthsLegal, tableOf, columnsOf, freshCall}
+use Rattle.diagram.specs.Held.{leastEntries, mostEntries}
 use Rattle.diagram.proofs.Columns.{Lengths, lengths-record, columns-length, table-columns}
 use Rattle.diagram.proofs.Calls.{fresh-after}
 use Rattle.rules.specs.Run.{Moment, startMoment, timeAfter, stepMoment, fitting}
 use Rattle.rules.specs.Call.{workingLegal, startCall}
-use Rattle.rules.proofs.RunSteps.{Takes, Rests, fitting-fits}
+use Rattle.rules.proofs.Admitted.{Admitted, fitting-fits}
+use Rattle.rules.proofs.RunSteps.{Takes, Rests}
 use Rattle.commute.specs.Interface.{Held, Interface}
 use Rattle.commute.specs.Lists.{Call, step, inPlace, upTo, workingOf, Made, Begun, Reached}
 use Rattle.commute.specs.Demand.{stepTime, Stands, Within, NotRefusedUpTo}
 use Rattle.commute.proofs.Lawful.{answerOf, left, Went, Lawful}
-use Rattle.commute.proofs.Trace.{Ground, Trace, begun, Started, start-answered, started-ground, fresh-ground, start-fresh, step-answers, run-answers, trace-ground, onward}
+use Rattle.commute.proofs.Trace.{Ground, Trace, begun, Started, start-answered, started-ground, fresh-ground, start-fresh, step-answers, run-answers, trace-ground, onward, StandsAt}
 use Rattle.commute.proofs.Keeps.{Keeps, number-answered, answered-number, left-keeps, keeps-next, call-went, calls-keep, stands-rests}
 
 -- an answered fresh table had columns of legal lengths
@@ -78,14 +80,21 @@ module _ {Source R : Type 0} {K : Interface Source R} (L : Lawful K) (s : Source
         let b = begun-keeps (r .begun) in
         (b .0, calls-keep L s c cell (b .0) (b .1) (r .after))
 
-    -- where the start and every step up to a picosecond fit, running the cell is not refused up to it
+    -- and stands at a picosecond
+    pub reached-stands : {h : Held R} {p : ℕ} → Reached K s size h → Stands K s c h p → (m : Moment) × StandsAt c size (startMoment c fresh) p m × Keeps K c size h m
+    reached-stands {p = p} r stands =
+        let x = reached-keeps r in
+        let y = stands-rests L s c cell (trace-ground (x .0) (x .1 .1)) (x .1 .2) p stands in
+        (x .1 .0, record { ground = x .0; trace = x .1 .1; time = y .0; rests = y .1 }, x .1 .2)
+
+    -- where the start fits and every step up to a picosecond is admitted, running the cell is not refused up to it
     pub not-refused : length (startMoment c fresh .table) ≤ size → (p : ℕ)
-        → ((m : Moment) → Trace c size (startMoment c fresh) m → Takes c p m → length (stepMoment c m .table) ≤ size) → NotRefusedUpTo K s c size p
-    not-refused first p fit = record {
+        → ((m : Moment) → Trace c size (startMoment c fresh) m → Takes c p m → Admitted c size m) → NotRefusedUpTo K s c size p
+    not-refused first p each = record {
       fresh-table = λ lent made legal number x. let y = L .fresh lent made number x in y .0 ∙ fresh-answered lent legal;
       start = λ lent long made h x sized working working′ w number started.
           let f = fresh-table lent (made .table) long x in
-          let y = L .start s (length fresh) made h working working′ number sized started in
+          let y = L .start s (length fresh) made h working working′ number (subst (λ (a : Answer Circuit). K .Sized a (made .run)) (sym cell) sized) started in
           answered-number number (y .number-is)
           (ap₂ (λ (a : Answer Circuit) (t : Columns). startCall a t leastEntries working) cell (f .2)
           ∙ start-fresh c (f .0) (f .1) working w
@@ -101,7 +110,7 @@ module _ {Source R : Type 0} {K : Interface Source R} (L : Lawful K) (s : Source
       where
         answers : (call : Call) → workingLegal (workingOf call) ≡ true → {m : Moment} → Within p (timeAfter c m) call → Ground c size (startMoment c fresh) → (t : Trace c size (startMoment c fresh) m)
             → (after : Moment) × (answerOf c (columnsOf size (m .table)) (m .run) call ≡ answered after)
-        answers (step working) w {m} (more, reach) g t = (stepMoment c m, step-answers (trace-ground g t) working w more (fit m t (record { more = more; reach = reach })))
-        answers (inPlace working) w {m} (more, reach) g t = (stepMoment c m, step-answers (trace-ground g t) working w more (fit m t (record { more = more; reach = reach })))
+        answers (step working) w {m} (more, reach) g t = (stepMoment c m, step-answers (trace-ground g t) working w more (each m t (record { more = more; reach = reach })))
+        answers (inPlace working) w {m} (more, reach) g t = (stepMoment c m, step-answers (trace-ground g t) working w more (each m t (record { more = more; reach = reach })))
         answers (upTo q working) w {m} l g t =
-            run-answers (trace-ground g t) q working w (λ last u takes. fit last (onward t u) (record { more = takes .more; reach = omega (arith, takes .reach) }))
+            run-answers (trace-ground g t) q working w (λ last u takes. each last (onward t u) (record { more = takes .more; reach = omega (arith, takes .reach) }))

@@ -14,7 +14,7 @@ use Rattle.format.specs.Circuit.{Circuit, firstNodeNumber}
 use Rattle.format.specs.Legal.{checkCircuit}
 use Rattle.format.proofs.Legal.{legal-limits}
 use Rattle.diagram.specs.Pattern.{patterns}
-use Rattle.diagram.specs.Call.{Columns, leastEntries, mostEntries, columnsOf}
+use Rattle.diagram.specs.Call.{Columns, columnsOf}
 use Rattle.diagram.proofs.Columns.{columns-length}
 use Rattle.rules.specs.State.{valueAt, changeAt}
 use Rattle.rules.specs.Run.{Run, Moment, stateOf, timeAfter, stepMoment}
@@ -54,7 +54,7 @@ answered-number number e k = e ∙ ap answerNumber k
 pub record Keeps {Source R : Type 0} (K : Interface Source R) (c : Circuit) (size : ℕ) (h : Held R) (m : Moment) : Type 0 where
   pub table : h .table ≡ columnsOf size (m .table)
   pub run : K .stated c (h .run) ≡ m .run
-  pub sized : K .Sized (h .run)
+  pub sized : K .Sized (answered c) (h .run)
 
 module _ {Source R : Type 0} {K : Interface Source R} (L : Lawful K) (s : Source) (c : Circuit) (cell : K .cell s ≡ answered c) {size : ℕ} where
   -- the run of a moment is as long as the cell's nodes are many

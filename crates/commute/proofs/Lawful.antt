@@ -41,19 +41,19 @@ pub record Long (c : Circuit) (r : Run) : Type 0 where
 pub record Lawful {Source R : Type 0} (K : Interface Source R) : Type 0 where
   -- how a run is stored, and that it can be read
   pub stored : Run → R
-  pub stored-sized : (c : Circuit) (r : Run) → Long c r → K .Sized (stored r)
+  pub stored-sized : (c : Circuit) (r : Run) → Long c r → K .Sized (answered c) (stored r)
   pub stored-stated : (c : Circuit) (r : Run) → Long c r → K .stated c (stored r) ≡ r
   -- the cell of a call is legal
   pub legal : (s : Source) (c : Circuit) → K .cell s ≡ answered c → checkCircuit c ≡ answered c
   pub fresh : (lent made : Columns) (number : ℕ) → K .Fresh lent made number → (number ≡ answerNumber (freshCall lent)) × (made ≡ columnsAfter lent (freshCall lent))
   -- an answered start had a record of the right length
-  pub start-sized : (s : Source) (used : ℕ) (h h′ : Held R) (working working′ : Columns) → K .Start s used h h′ working working′ 0 → K .Sized (h .run)
-  pub start : (s : Source) (used : ℕ) (h h′ : Held R) (working working′ : Columns) (number : ℕ) → K .Sized (h .run) → K .Start s used h h′ working working′ number
+  pub start-sized : (s : Source) (used : ℕ) (h h′ : Held R) (working working′ : Columns) → K .Start s used h h′ working working′ 0 → K .Sized (K .cell s) (h .run)
+  pub start : (s : Source) (used : ℕ) (h h′ : Held R) (working working′ : Columns) (number : ℕ) → K .Sized (K .cell s) (h .run) → K .Start s used h h′ working working′ number
       → Went stored (startCall (K .cell s) (h .table) used working) h h′ number
-  pub made : (s : Source) (c : Circuit) → K .cell s ≡ answered c → (call : Call) (h h′ : Held R) (number : ℕ) → K .Sized (h .run) → Made K s call h h′ number
+  pub made : (s : Source) (c : Circuit) → K .cell s ≡ answered c → (call : Call) (h h′ : Held R) (number : ℕ) → K .Sized (answered c) (h .run) → Made K s call h h′ number
       → Went stored (answerOf c (h .table) (K .stated c (h .run)) call) h h′ number
   -- a run up to a picosecond can be made
-  pub run : (s : Source) (c : Circuit) → K .cell s ≡ answered c → (until : ℕ) (h h′ : Held R) (working : Columns) (number : ℕ) → K .Sized (h .run)
+  pub run : (s : Source) (c : Circuit) → K .cell s ≡ answered c → (until : ℕ) (h h′ : Held R) (working : Columns) (number : ℕ) → K .Sized (answered c) (h .run)
       → Went stored (runCall (answered c) until (h .table) (K .stated c (h .run)) working) h h′ number → (working′ : Columns) × K .UpTo s until h h′ working working′ number
-  pub ask : (s : Source) (c : Circuit) → K .cell s ≡ answered c → (h : Held R) (n p number value change : ℕ) → K .Sized (h .run) → K .Ask s h n p number value change
+  pub ask : (s : Source) (c : Circuit) → K .cell s ≡ answered c → (h : Held R) (n p number value change : ℕ) → K .Sized (answered c) (h .run) → K .Ask s h n p number value change
       → Asked (askCall (answered c) (h .table) (K .stated c (h .run)) n p) number value change

@@ -7,7 +7,8 @@ pub mod Trace
 pub mod Lawful
 pub mod Keeps
 pub mod Begun
-pub mod Order
 pub mod Alone
+pub mod Same
+pub mod Order
 pub mod Rules
 pub mod Stands

@@ -14,13 +14,14 @@ use Rattle.format.proofs.Fixing.{fully-fixed-without-letters}
 use Rattle.diagram.specs.Pattern.{patterns}
 use Rattle.diagram.specs.Table.{never}
 use Rattle.diagram.specs.Store.{fresh}
-use Rattle.diagram.specs.Call.{Columns, lengthsLegal, tableOf, columnsOf, columnsSound}
+use Rattle.diagram.specs.Call.{Columns, tableOf, columnsOf, columnsSound}
 use Rattle.diagram.proofs.Calls.{fresh-sound}
 use Rattle.diagram.proofs.Columns.{Lengths, lengths-record, columns-record, columns-table, table-length}
 use Rattle.rules.specs.State.{State, valueAt, changeAt}
 use Rattle.rules.specs.Run.{Moment, runSound, startMoment, timeAfter, stepMoment}
 use Rattle.rules.specs.Call.{momentGiven, soundTogether}
 use Rattle.rules.proofs.Readable.{given-sound, held-sound, held-lengths}
+use Rattle.rules.proofs.Admitted.{Admitted}
 use Rattle.rules.proofs.RunSteps.{Rests, Steps, Takes, steps-time}
 use Rattle.commute.specs.Interface.{Held, Interface}
 use Rattle.commute.specs.Lists.{Call, step, inPlace, upTo, Made, After, Reached}
@@ -30,8 +31,8 @@ use Rattle.commute.proofs.Fixed.{fixed-alike, pattern-lt}
 use Rattle.commute.proofs.Trace.{Ground, Trace, begun, stepped, trace-ground, steps-trace, step-answered, run-answered, started-ground}
 use Rattle.commute.proofs.Together.{fixed-letters, stateAt}
 use Rattle.commute.proofs.Lawful.{answerOf, Lawful}
-use Rattle.commute.proofs.Keeps.{Keeps, keeps-given, keeps-time, keeps-tells, call-answered, calls-keep, stands-rests}
-use Rattle.commute.proofs.Begun.{start-keeps, reached-keeps}
+use Rattle.commute.proofs.Keeps.{Keeps, keeps-given, keeps-time, keeps-tells, call-answered, calls-keep}
+use Rattle.commute.proofs.Begun.{start-keeps, reached-stands}
 use Rattle.commute.proofs.Order.{same-state}
 use Rattle.commute.proofs.Alone.{aloneAt, start-alone, reads-alone, steps-fixed, AlikeAt, plain-start, plain-time, plain-step, plain-steps, none-plain, none-alike}
 
@@ -129,10 +130,10 @@ module _ {Source R : Type 0} {K : Interface Source R} (L : Lawful K) (s : Source
     alikes = alike-at L s c cell ground held alike
 
     -- one step
-    plain-one : {h′ : Held R} → Keeps K c size h′ (stepMoment c m) → timeAfter c m < never → length (stepMoment c m .table) ≤ size → StepsTo K c 1 h h′
+    plain-one : {h′ : Held R} → Keeps K c size h′ (stepMoment c m) → timeAfter c m < never → Admitted c size m → StepsTo K c 1 h h′
     unfolding stepsAlone
-    plain-one k′ more room =
-        steps-held L s c cell ground held (trace-ground ground (stepped begun more room)) k′ 1
+    plain-one k′ more a =
+        steps-held L s c cell ground held (trace-ground ground (stepped begun more a)) k′ 1
         (λ p hp. plain-step c (L .legal s c cell) plain (ground .sound) alikes p hp)
 
     -- an answered step, in place or not
@@ -205,28 +206,28 @@ fully-fixed-by-the-rules {K = K} L s fixed-one c φ cell cell′ full size first
     let d : Circuit = fixed φ c in
     let legal = L .legal s c cell in
     let dlegal = L .legal fixed-one d cell′ in
-    let x = reached-keeps L s c cell reached in
-    let x′ = reached-keeps L fixed-one d cell′ again in
-    let g = trace-ground (x .0) (x .1 .1) in
-    let g′ = trace-ground (x′ .0) (x′ .1 .1) in
-    let y = stands-rests L s c cell g (x .1 .2) p stands in
-    let y′ = stands-rests L fixed-one d cell′ g′ (x′ .1 .2) p there in
+    let x = reached-stands L s c cell reached stands in
+    let x′ = reached-stands L fixed-one d cell′ again there in
+    let at = x .1 in
+    let at′ = x′ .1 in
+    let g = trace-ground (at .ground) (at .trace) in
+    let g′ = trace-ground (at′ .ground) (at′ .trace) in
     let plain = fully-fixed-without-letters φ c legal full in
-    let z = plain-steps d dlegal plain (x′ .0) (plain-start d dlegal plain (fresh-sound (d .letters))) (x′ .1 .1) in (
+    let z = plain-steps d dlegal plain (at′ .ground) (plain-start d dlegal plain (fresh-sound (d .letters))) (at′ .trace) in (
       z .1,
       λ q hq.
           let hq′ : q < patterns (d .letters) = rw (fixed-letters φ c) hq in
           let r : ℕ = fixedPattern φ (c .letters) q in
           let hr : r < patterns (c .letters) = pattern-lt φ (c .letters) (c .letters) q (omega arith) hq in
-          let e : aloneAt d (x′ .1 .0) q ≡ stepsAlone c r (startAlone c r) (z .1) =
+          let e : aloneAt d (x′ .0) q ≡ stepsAlone c r (startAlone c r) (z .1) =
           z .2 q hq′ ∙ ap (λ (a : Alone). stepsAlone d q a (z .1)) (start-alone dlegal (fresh-sound (d .letters)) q hq′) ∙ steps-fixed c legal φ q (z .1) in
-          let state : stateAt d (x′ .1 .0) q ≡ stepsAlone c r (startAlone c r) (z .1) .state = ap (λ (a : Alone). a .state) e in
+          let state : stateAt d (x′ .0) q ≡ stepsAlone c r (startAlone c r) (z .1) .state = ap (λ (a : Alone). a .state) e in
           let nodes : length (d .nodes) ≡ length (c .nodes) = fixed-alike φ c .count-same in (
-            sym (ap (λ (a : Alone). a .time) e) ∙ sym (keeps-time L fixed-one d cell′ g′ (x′ .1 .2)),
+            sym (ap (λ (a : Alone). a .time) e) ∙ sym (keeps-time L fixed-one d cell′ g′ (x′ .2)),
             λ n hn number value change asked.
                 subst (λ (st : State). (number ≡ 0) × (value ≡ valueAt st n) × (change ≡ changeAt st n)) state
-                (keeps-tells L fixed-one d cell′ g′ (x′ .1 .2) q hq′ n (omega arith) number value change asked),
-            subst (Tells K s c first r) (sym (same-state φ c (x .0) (x .1 .1) p (y .0) (y .1) (x′ .1 .1) (y′ .0) (y′ .1) q hq) ∙ state)
-                (keeps-tells L s c cell g (x .1 .2) r hr),
+                (keeps-tells L fixed-one d cell′ g′ (x′ .2) q hq′ n (omega arith) number value change asked),
+            subst (Tells K s c first r) (sym (same-state φ c at at′ q hq) ∙ state)
+                (keeps-tells L s c cell g (x .2) r hr),
           ),
     )

@@ -1,4 +1,4 @@
--- The moments that a run and its list of calls can hold: the one that it set out from, and each step that fits.
+-- The moments that a run and its list of calls can hold: the one that it set out from, and each step that is admitted.
 use mathlib.Core.Path.{_≡_, refl, sym, _∙_, ap}
 use mathlib.Core.Logic.{inl, inr}
 use mathlib.Core.Bool.{Bool, true, _&&_}
@@ -16,15 +16,17 @@ use Rattle.format.specs.Legal.{checkCircuit}
 use Rattle.diagram.specs.Pattern.{patterns}
 use Rattle.diagram.specs.Table.{never}
 use Rattle.diagram.specs.Store.{fresh}
-use Rattle.diagram.specs.Call.{Columns, leastEntries, mostEntries, lengthsLegal, tableOf, columnsOf, columnsSound}
-use Rattle.diagram.proofs.Columns.{Lengths, ColumnsSound, lengths-record, lengths-test, columns-record, columns-lengths, columns-length, columns-sound-test, table-columns}
+use Rattle.diagram.specs.Call.{Columns, lengthsLegal, tableOf, columnsOf, columnsSound}
+use Rattle.diagram.specs.Held.{leastEntries, mostEntries}
+use Rattle.diagram.proofs.Columns.{Lengths, lengths-record, lengths-test, columns-record, columns-lengths, columns-length, columns-sound-test, table-columns}
 use Rattle.diagram.proofs.Sound.{Sound, sound-test}
 use Rattle.diagram.proofs.Calls.{fresh-sound}
 use Rattle.rules.specs.Run.{Moment, stateOf, startMoment, timeAfter, stepMoment, fitting}
 use Rattle.rules.specs.Call.{leastWorking, workingLegal, momentGiven, startCall, stepCall, runCall, askCall}
 use Rattle.rules.proofs.Moment.{SoundMoment, start-sound, step-sound, step-time, time-within}
 use Rattle.rules.proofs.Readable.{held-given, held-step, held-run, wireOf, held-ask}
-use Rattle.rules.proofs.RunSteps.{Rests, Takes, Steps, stays, goes, ran, fitting-fits, run-rests, run-refused, run-exact, steps-keep, steps-trans}
+use Rattle.rules.proofs.Admitted.{Admitted, admitting, admitted-answer, admitted-not-barred, answer-admitted}
+use Rattle.rules.proofs.RunSteps.{Rests, Takes, Steps, stays, goes, ran, run-rests, run-refused, run-exact, steps-keep, steps-trans}
 
 -- a sound moment of a legal cell that a run sets out from, in a table of a legal length
 pub record Ground (c : Circuit) (size : ℕ) (m : Moment) : Type 0 where
@@ -37,18 +39,25 @@ pub record Ground (c : Circuit) (size : ℕ) (m : Moment) : Type 0 where
 -- a moment that the run can hold
 pub data Trace (c : Circuit) (size : ℕ) (from : Moment) : Moment → Type 0 where
   begun : Trace c size from from
-  stepped : {m : Moment} → Trace c size from m → timeAfter c m < never → length (stepMoment c m .table) ≤ size → Trace c size from (stepMoment c m)
+  stepped : {m : Moment} → Trace c size from m → timeAfter c m < never → Admitted c size m → Trace c size from (stepMoment c m)
+
+-- a run that set out from one moment stands at a picosecond in another
+pub record StandsAt (c : Circuit) (size : ℕ) (from : Moment) (until : ℕ) (m : Moment) : Type 0 where
+  pub ground : Ground c size from
+  pub trace : Trace c size from m
+  pub time : m .run .time ≤ until
+  pub rests : Rests c until m
 
 module _ {c : Circuit} {size : ℕ} {from : Moment} (g : Ground c size from) where
-  -- its table fits
+  -- the table of a moment that the run can hold fits
   pub trace-fits : {m : Moment} → Trace c size from m → length (m .table) ≤ size
   trace-fits begun = g .fits
-  trace-fits (stepped t more l) = l
+  trace-fits (stepped t more a) = a .fits
 
   -- it is sound
   pub trace-sound : {m : Moment} → Trace c size from m → SoundMoment c m
   trace-sound begun = g .sound
-  trace-sound (stepped t more l) = step-sound (g .legal) (trace-sound t) more
+  trace-sound (stepped t more a) = step-sound (g .legal) (trace-sound t) more
 
   -- so that a run can set out from it too
   pub trace-ground : {m : Moment} → Trace c size from m → Ground c size m
@@ -57,19 +66,19 @@ module _ {c : Circuit} {size : ℕ} {from : Moment} (g : Ground c size from) whe
   -- each one up to a picosecond is reached by steps
   pub trace-steps : {m : Moment} → Trace c size from m → (p : ℕ) → m .run .time ≤ p → Steps c p size from m
   trace-steps begun p h = stays
-  trace-steps (stepped {m = m} t next l) p h =
+  trace-steps (stepped {m = m} t next a) p h =
       let e = step-time c m in
       let w = time-within (g .legal) (trace-sound t) next in
-      steps-trans c p size (trace-steps t p (omega arith)) (goes (record { more = next; reach = omega arith }) l stays)
+      steps-trans c p size (trace-steps t p (omega arith)) (goes (record { more = next; reach = omega arith }) a stays)
 
 -- steps lead from one to another
 pub steps-trace : {c : Circuit} {until size : ℕ} {from m after : Moment} → Steps c until size m after → Trace c size from m → Trace c size from after
-steps-trace {c} {until} {size} {from} steps t = steps-keep c until size (Trace c size from) (λ m k s l. stepped k (s .more) l) steps t
+steps-trace {c} {until} {size} {from} steps t = steps-keep c until size (Trace c size from) (λ m k s a. stepped k (s .more) a) steps t
 
 -- and what can be held after a moment that can be held can be held
 pub onward : {c : Circuit} {size : ℕ} {from m after : Moment} → Trace c size from m → Trace c size m after → Trace c size from after
 onward t begun = t
-onward t (stepped u more room) = stepped (onward t u) more room
+onward t (stepped u more a) = stepped (onward t u) more a
 
 -- no moment both has a next step and has none
 pub takes-not-rests : {c : Circuit} {until : ℕ} {m : Moment} → Takes c until m → Rests c until m → ⊥
@@ -79,21 +88,8 @@ takes-not-rests t (inr g) = omega (arith, t .reach)
 -- steps to a moment with none left go through every other moment reached
 pub steps-through : {c : Circuit} {until size : ℕ} {m between after : Moment} → Steps c until size m between → Steps c until size m after → Rests c until after → Steps c until size between after
 steps-through stays there r = there
-steps-through (goes t l rest) stays r = absurd (takes-not-rests t r)
-steps-through (goes t l rest) (goes u k there) r = steps-through rest there r
-
--- moments with no step left up to a picosecond, both reached by steps from one, are one
-pub steps-unique : {c : Circuit} {until size : ℕ} {m a b : Moment} → Steps c until size m a → Rests c until a → Steps c until size m b → Rests c until b → a ≡ b
-steps-unique {c} {until} {size} {a = a} {b = b} sa ra sb rb = from (steps-through sa sb rb) ra
-  where
-    from : {x y : Moment} → Steps c until size x y → Rests c until x → x ≡ y
-    from stays r = refl
-    from (goes t l rest) r = absurd (takes-not-rests t r)
-
--- a run stands at a picosecond in one moment only
-pub trace-unique : {c : Circuit} {size : ℕ} {from a b : Moment} → Ground c size from → Trace c size from a → Trace c size from b → (p : ℕ)
-    → a .run .time ≤ p → Rests c p a → b .run .time ≤ p → Rests c p b → a ≡ b
-trace-unique g ta tb p la ra lb rb = steps-unique (trace-steps g ta p la) ra (trace-steps g tb p lb) rb
+steps-through (goes t a rest) stays r = absurd (takes-not-rests t r)
+steps-through (goes t a rest) (goes u b there) r = steps-through rest there r
 
 -- a legal working table
 abbrev pub someWorking : Columns
@@ -170,38 +166,37 @@ module _ {c : Circuit} {size : ℕ} {m : Moment} (g : Ground c size m) where
 
   -- the answer of a step, and of a run up to a picosecond
   ground-step : (working : Columns) → workingLegal working ≡ true
-      → stepCall (answered c) (columnsOf size (m .table)) (m .run) working ≡ check (ltb (timeAfter c m) never) Finished (fitting size (stepMoment c m))
+      → stepCall (answered c) (columnsOf size (m .table)) (m .run) working ≡ check (ltb (timeAfter c m) never) Finished (admitting c size m)
   ground-step working w = held-step (g .sound) size (g .least) (g .most) (g .fits) working w
 
   ground-run : (until : ℕ) (working : Columns) → workingLegal working ≡ true → runCall (answered c) until (columnsOf size (m .table)) (m .run) working ≡ ran c until size m
   ground-run until working w = held-run (g .sound) size (g .least) (g .most) (g .fits) working w until
 
-  -- a step is answered exactly if there is one and it fits
-  pub step-answers : (working : Columns) → workingLegal working ≡ true → timeAfter c m < never → length (stepMoment c m .table) ≤ size
+  -- a step is answered exactly if there is one and it is admitted
+  pub step-answers : (working : Columns) → workingLegal working ≡ true → timeAfter c m < never → Admitted c size m
       → stepCall (answered c) (columnsOf size (m .table)) (m .run) working ≡ answered (stepMoment c m)
-  step-answers working w next l = ground-step working w ∙ rw (lt-ltb (timeAfter c m) never next, le-leb (length (stepMoment c m .table)) size l)
+  step-answers working w next a = ground-step working w ∙ rw (lt-ltb (timeAfter c m) never next) (admitted-answer a)
 
   -- and what is answered is the step's moment
   pub step-answered : (working : Columns) (after : Moment) → stepCall (answered c) (columnsOf size (m .table)) (m .run) working ≡ answered after
-      → (timeAfter c m < never) × (length (stepMoment c m .table) ≤ size) × (after ≡ stepMoment c m)
+      → (timeAfter c m < never) × Admitted c size m × (after ≡ stepMoment c m)
   step-answered working after e =
       let w = step-working c (columnsOf size (m .table)) (m .run) working after e in
-      let one = check-passed (ltb (timeAfter c m) never) Finished (fitting size (stepMoment c m)) after (sym (ground-step working w) ∙ e) in
-      let two = check-passed (leb (length (stepMoment c m .table)) size) Full (answered (stepMoment c m)) after (one .1) in
-      (ltb-true (timeAfter c m) never (one .0), leb-true (length (stepMoment c m .table)) size (two .0), sym (same-answer (two .1)))
+      let one = check-passed (ltb (timeAfter c m) never) Finished (admitting c size m) after (sym (ground-step working w) ∙ e) in
+      let two = answer-admitted (one .1) in
+      (ltb-true (timeAfter c m) never (one .0), two .0, two .1)
 
-  -- a run is answered exactly if each of its steps fits
+  -- a run is answered exactly if each of its steps is admitted
   pub run-answers : (until : ℕ) (working : Columns) → workingLegal working ≡ true
-      → ((last : Moment) → Trace c size m last → Takes c until last → length (stepMoment c last .table) ≤ size)
+      → ((last : Moment) → Trace c size m last → Takes c until last → Admitted c size last)
       → (after : Moment) × (runCall (answered c) until (columnsOf size (m .table)) (m .run) working ≡ answered after)
-  run-answers until working w fit = from (ran c until size m) refl
+  run-answers until working w each = from (ran c until size m) refl
     where
       from : (a : Answer Moment) → ran c until size m ≡ a → (after : Moment) × (runCall (answered c) until (columnsOf size (m .table)) (m .run) working ≡ answered after)
       from (answered after) e = (after, ground-run until working w ∙ e)
       from (refused why) e =
           let r = run-refused c until size (c .horizon .0) m why e in
-          let l = fit (r .1) (steps-trace (r .2) begun) (r .3) in
-          absurd (omega (arith, r .4))
+          absurd (admitted-not-barred (each (r .0) (steps-trace (r .1) begun) (r .2)) (r .3))
 
   -- an answered run took its steps, and none is left
   pub run-answered : (until : ℕ) (working : Columns) (after : Moment) → runCall (answered c) until (columnsOf size (m .table)) (m .run) working ≡ answered after

@@ -43,7 +43,7 @@ stepsAlone c p a (suc n) = stepAlone c p (stepsAlone c p a n)
 
 -- a held run that is sound with its table, lengths being in range
 pub record SoundHeld {Source R : Type 0} (K : Interface Source R) (c : Circuit) (h : Held R) : Type 0 where
-  pub sized : K .Sized (h .run)
+  pub sized : K .Sized (answered c) (h .run)
   pub lengths : lengthsLegal (h .table) ≡ true
   pub together : soundTogether c (h .table) (K .stated c (h .run)) ≡ true
 

@@ -51,7 +51,7 @@ Within p time (upTo q working) = q ≤ p
 -- lists no run up to at most p and no step whose time is at most p
 pub record NotRefusedUpTo {Source R : Type 0} (K : Interface Source R) (s : Source) (c : Circuit) (size p : ℕ) : Type 0 where
   pub fresh-table : (lent made : Columns) → lengthsLegal lent ≡ true → (number : ℕ) → K .Fresh lent made number → number ≡ 0
-  pub start : (lent : Columns) → length (lent .letter) ≡ size → (made h : Held R) → K .Fresh lent (made .table) 0 → K .Sized (made .run)
+  pub start : (lent : Columns) → length (lent .letter) ≡ size → (made h : Held R) → K .Fresh lent (made .table) 0 → K .Sized (answered c) (made .run)
       → (working working′ : Columns) → workingLegal working ≡ true
       → (number : ℕ) → K .Start s (length table.fresh) made h working working′ number → number ≡ 0
   pub calls : (h : Held R) → Reached K s size h → (call : Call) → workingLegal (workingOf call) ≡ true → Within p (stepTime K c h) call

@@ -19,8 +19,8 @@ pub record Interface (Source R : Type 0) : Type 1 where
   -- the cell of a call, and the run that a record states of a cell
   pub cell : Source → Answer Circuit
   pub stated : Circuit → R → Run
-  -- a record of the right length
-  pub Sized : R → Type 0
+  -- a record of the right length for a cell
+  pub Sized : Answer Circuit → R → Type 0
   -- a fresh table: the columns before and after, the number
   pub Fresh : Columns → Columns → ℕ → Type 0
   -- a start in a table with so many entries used

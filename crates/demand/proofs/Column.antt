@@ -13,7 +13,7 @@ use Rattle.record.specs.declared.Run.{Run}
 use Rattle.record.specs.Record.{recordOf}
 use Rattle.record.proofs.Record.{run-of-record, record-long}
 use Rattle.advance.specs.Task.{runIn}
-use Rattle.editor.specs.Runs.{recordLength, recordIn, recordColumn}
+use Rattle.editor.specs.Runs.{recordIn, recordColumn}
 use Rattle.editor.proofs.Column.{read-back}
 
 module _ (c : Circuit) (few : length (c .nodes) ≤ mostNodes) (r : defined.Run) (vs : length (r .values) ≡ length (c .nodes)) (cs : length (r .changes) ≡ length (c .nodes)) where
@@ -24,7 +24,7 @@ module _ (c : Circuit) (few : length (c .nodes) ≤ mostNodes) (r : defined.Run)
       ap (runIn (answered c)) (read-back (recordOf r) (x .0) (x .1)) ∙ run-of-record c r vs cs
 
 -- the column of the record in a column
-pub column-back : (column : List ℕ) → length column ≡ recordLength → recordColumn (recordIn column) ≡ column
+pub column-back : (column : List ℕ) → length column ≡ 50 → recordColumn (recordIn column) ≡ column
 column-back [] h = absurd (omega arith)
 column-back (time ∷ []) h = absurd (omega arith)
 column-back (time ∷ used ∷ l) h =

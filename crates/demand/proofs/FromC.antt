@@ -42,22 +42,22 @@ held-after h h′ (refused why) e e′ = λ i. record { table = e i; run = e′ 
 held-after h h′ (answered m) e e′ = λ i. record { table = e i; run = e′ i }
 
 -- the answer with a record of the right length
-task-sized : (file : List ℕ) (task : Task) (table : Columns) (column : List ℕ) (working : Columns) → length column ≡ recordLength
+task-sized : (file : List ℕ) (task : Task) (table : Columns) (column : List ℕ) (working : Columns) → length column ≡ recordLength (readCell file)
     → taskAnswer file task table column working ≡ taskCall (readCell file) task table (recordIn column) working
 unfolding taskAnswer
 task-sized file task table column working long =
-    ap (λ (b : Bool). check b Buffer (taskCall (readCell file) task table (recordIn column) working)) (eq-eqb (length column) recordLength long)
+    ap (λ (b : Bool). check b Buffer (taskCall (readCell file) task table (recordIn column) working)) (eq-eqb (length column) (recordLength (readCell file)) long)
 
 -- an answered task had one
-task-long : (file : List ℕ) (task : Task) (table : Columns) (column : List ℕ) (working : Columns) → answerNumber (taskAnswer file task table column working) ≡ 0 → length column ≡ recordLength
+task-long : (file : List ℕ) (task : Task) (table : Columns) (column : List ℕ) (working : Columns) → answerNumber (taskAnswer file task table column working) ≡ 0 → length column ≡ recordLength (readCell file)
 unfolding taskAnswer
 task-long file task table column working e =
     let next : Answer Moment = taskCall (readCell file) task table (recordIn column) working in
-    let a = number-answered (check (eqb (length column) recordLength) Buffer next) e in
-    eqb-true (length column) recordLength (check-passed (eqb (length column) recordLength) Buffer next (a .0) (a .1) .0)
+    let a = number-answered (check (eqb (length column) (recordLength (readCell file))) Buffer next) e in
+    eqb-true (length column) (recordLength (readCell file)) (check-passed (eqb (length column) (recordLength (readCell file))) Buffer next (a .0) (a .1) .0)
 
 -- a task on the column
-task-went : (file : List ℕ) (task : Task) (h h′ : Held (List ℕ)) (working working′ : Columns) (number : ℕ) → length (h .run) ≡ recordLength → onColumn file task h h′ working working′ number
+task-went : (file : List ℕ) (task : Task) (h h′ : Held (List ℕ)) (working working′ : Columns) (number : ℕ) → length (h .run) ≡ recordLength (readCell file) → onColumn file task h h′ working working′ number
     → Went stored (taskCall (readCell file) task (h .table) (recordIn (h .run)) working) h h′ number
 task-went file task h h′ working working′ number long done =
     let e = task-sized file task (h .table) (h .run) working long in
@@ -67,7 +67,7 @@ task-went file task h h′ working working′ number long done =
     }
 
 -- a step in place is the step on the same numbers
-pub in-place-went : (file : List ℕ) (h h′ : Held (List ℕ)) (working working′ : Columns) (number : ℕ) → length (h .run) ≡ recordLength → onStruct file h h′ working working′ number
+pub in-place-went : (file : List ℕ) (h h′ : Held (List ℕ)) (working working′ : Columns) (number : ℕ) → length (h .run) ≡ recordLength (readCell file) → onStruct file h h′ working working′ number
     → Went stored (taskCall (readCell file) Step (h .table) (recordIn (h .run)) working) h h′ number
 in-place-went file h h′ working working′ number long (r, r′, e, e′, done) =
     let a : Answer Moment = taskCall (readCell file) Step (h .table) (recordIn (h .run)) working in
@@ -89,14 +89,14 @@ module _ (file : List ℕ) (c : Circuit) (read : readCell file ≡ answered c) w
   with-cell task h h′ working number = subst (λ (cell : Answer Circuit). Went stored (taskCall cell task (h .table) (recordIn (h .run)) working) h h′ number) read
 
   -- each call of a list
-  made-went : (call : Call) (h h′ : Held (List ℕ)) (number : ℕ) → length (h .run) ≡ recordLength → Made fromC file call h h′ number
+  made-went : (call : Call) (h h′ : Held (List ℕ)) (number : ℕ) → length (h .run) ≡ recordLength (answered c) → Made fromC file call h h′ number
       → Went stored (answerOf c (h .table) (runIn (answered c) (recordIn (h .run))) call) h h′ number
   made-went (step working) h h′ number long (working′, done) = with-cell Step h h′ working number (task-went file Step h h′ working working′ number long done)
   made-went (inPlace working) h h′ number long (working′, done) = with-cell Step h h′ working number (in-place-went file h h′ working working′ number long done)
   made-went (upTo until working) h h′ number long (working′, done) = with-cell (Until until) h h′ working number (task-went file (Until until) h h′ working working′ number long done)
 
   -- a run up to a picosecond can be made
-  run-made : (until : ℕ) (h h′ : Held (List ℕ)) (working : Columns) (number : ℕ) → length (h .run) ≡ recordLength
+  run-made : (until : ℕ) (h h′ : Held (List ℕ)) (working : Columns) (number : ℕ) → length (h .run) ≡ recordLength (answered c)
       → Went stored (taskCall (answered c) (Until until) (h .table) (recordIn (h .run)) working) h h′ number
       → (working′ : Columns) × onColumn file (Until until) h h′ working working′ number
   run-made until h h′ working number long went =
@@ -122,13 +122,13 @@ module _ (file : List ℕ) (c : Circuit) (read : readCell file ≡ answered c) w
       table (answered m) = refl
 
   -- a question
-  ask-went : (h : Held (List ℕ)) (n p number value change : ℕ) → length (h .run) ≡ recordLength → asked file h n p number value change
+  ask-went : (h : Held (List ℕ)) (n p number value change : ℕ) → length (h .run) ≡ recordLength (answered c) → asked file h n p number value change
       → Asked (askCall (answered c) (h .table) (runIn (answered c) (recordIn (h .run))) n p) number value change
   unfolding askAnswer
   ask-went h n p number value change long (told, two, done) =
       let e : askAnswer file (h .table) (h .run) n p told ≡ askCall (answered c) (h .table) (runIn (answered c) (recordIn (h .run))) n p =
       ap (λ (b : Bool). check b Buffer (askCall (readCell file) (h .table) (runIn (readCell file) (recordIn (h .run))) n p))
-      (and-both (eqb (length (h .run)) recordLength) (eqb (length told) 2) (eq-eqb (length (h .run)) recordLength long) (eq-eqb (length told) 2 two))
+      (and-both (eqb (length (h .run)) (recordLength (answered c))) (eqb (length told) 2) (eq-eqb (length (h .run)) (recordLength (answered c)) long) (eq-eqb (length told) 2 two))
       ∙ ap (λ (cell : Answer Circuit). askCall cell (h .table) (runIn cell (recordIn (h .run))) n p) read in
       record {
         number-is = done .number-is ∙ ap {B = ℕ} answerNumber e;

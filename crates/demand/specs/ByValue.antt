@@ -38,7 +38,7 @@ abbrev pub byValue : Interface Cell Run
 byValue = record {
   cell = λ v. checkCircuit (circuitOf v);
   stated = λ c r. runIn (answered c) r;
-  Sized = λ r. Unit {0};
+  Sized = λ cell r. Unit {0};
   Fresh = freshByValue;
   Start = λ v used. onValue v (Start used);
   Step = λ v. onValue v Step;

@@ -6,7 +6,7 @@ use mathlib.Core.List.{List, [], _∷_}
 use lib.ListN.{length}
 use Rattle.refusal.specs.Answer.{Answer, answered}
 use Rattle.format.specs.File.{readCell}
-use Rattle.diagram.specs.Call.{Columns, freshCall}
+use Rattle.diagram.specs.Call.{freshCall}
 use Rattle.rules.specs.Run.{Moment}
 use Rattle.record.specs.declared.Run.{Run}
 use Rattle.advance.specs.declared.Task.{Task}
@@ -36,7 +36,7 @@ abbrev pub fromC : Interface (List ℕ) (List ℕ)
 fromC = record {
   cell = readCell;
   stated = λ c column. runIn (answered c) (recordIn column);
-  Sized = λ column. length column ≡ recordLength;
+  Sized = λ cell column. length column ≡ recordLength cell;
   Fresh = λ before after number. FreshCall before after (freshCall before) number;
   Start = λ file used. onColumn file (Start used);
   Step = λ file. onColumn file Step;

@@ -19,9 +19,10 @@ use Rattle.rules.proofs.Label.{all-legal}
 use Rattle.rules.proofs.Forest.{Cut, Rising, numbered}
 use Rattle.rules.proofs.Walk.{Kept, kept-kept}
 use Rattle.rules.proofs.Range.{Limited, legal-limited, reach-root, sum-reach, load-reach}
-use Rattle.walk.specs.Leaf.{keptBy, isKept, leafState, leafChannels}
-use Rattle.walk.specs.Ready.{Ranged}
-use Rattle.descent.specs.Settle.{rootsLength, Calm, isOf}
+use Rattle.net.specs.Roots.{leafLength, rootsLength}
+use Rattle.plain.specs.Leaf.{keptBy, isKept, leafState, leafChannels}
+use Rattle.plain.specs.Ready.{Ranged}
+use Rattle.descent.specs.Settle.{Calm, isOf}
 use Rattle.descent.proofs.Channels.{by-take, by-leave, Flagged, by-flagged, kept-by}
 
 -- a transistor whose flag is up is a channel
@@ -96,8 +97,8 @@ module _ (c : Circuit) (cell : LegalCell c) (s : State) (numbers : List ℕ)
     charges = leaf-ranged;
   }
     where
-      first : (i : ℕ) → i < 90 → getD (take 90 numbers) i 0 ≡ getD numbers i 0
-      first i h = getD-take 90 numbers i 0 h
+      first : (i : ℕ) → i < leafLength → getD (take leafLength numbers) i 0 ≡ getD numbers i 0
+      first i h = getD-take leafLength numbers i 0 h
 
       rail : (n : ℕ) → n < 2 → getD numbers n 0 ≤ 1
       rail zero h = omega (arith, ground)

@@ -17,8 +17,8 @@ use Rattle.rules.specs.Kept.{Channel, keeps, afterKept, keptFrom, kept}
 use Rattle.rules.proofs.State.{Numbered, Shaped}
 use Rattle.rules.proofs.Forest.{numbered}
 use Rattle.rules.proofs.Local.{only, touches}
-use Rattle.walk.specs.Leaf.{keptBy, leafState}
-use Rattle.walk.proofs.Arms.{by-ext}
+use Rattle.plain.specs.Leaf.{keptBy, leafState}
+use Rattle.plain.proofs.Arms.{by-ext}
 use Rattle.descent.specs.Settle.{isOf}
 
 module _ (flag : ℕ → Bool) (i : ℕ) (t : Transistor) (ts : List Transistor) where

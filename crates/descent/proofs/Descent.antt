@@ -6,10 +6,11 @@ use Prim.Native.Nat.{ℕ, _-_, _≤_}
 use lib.ListN.{getD}
 use Rattle.diagram.specs.Table.{Table, terminalLetter, terminal}
 use Rattle.diagram.specs.Store.{add, store}
-use Rattle.diagram.specs.Call.{tableOf}
+use Rattle.diagram.specs.Held.{held}
 use Rattle.net.specs.Net.{netCircuit}
 use Rattle.table.specs.declared.Put.{Put}
-use Rattle.table.specs.Holds.{columns, Outcome}
+use Rattle.table.specs.Stop.{stopped}
+use Rattle.table.specs.Holds.{Outcome}
 use Rattle.functions.specs.Open.{Open}
 use Rattle.functions.proofs.Carry.{legible-sound}
 use Rattle.functions.proofs.Halving.{Halves, low-full}
@@ -26,7 +27,7 @@ module _ {net : List ℕ} {n k : ℕ} {l w h : List ℕ} {used : ℕ} {roots : L
 
   pub leaf-stored : m ≡ terminalLetter → (time : ℕ) {u : Table} {l1 w1 h1 ix1 : List ℕ} {p : Put}
       → Outcome u (add (terminal (settledAt (netCircuit net) time n (lowOf w kept))) u) l1 w1 h1 ix1 p
-      → Outcome u (store k 0 (settledBy (netCircuit net) time n k (tableOf (columns l w h) used) roots) u) l1 w1 h1 ix1 p
+      → Outcome u (store k 0 (settledBy (netCircuit net) time n k (held l w h used) roots) u) l1 w1 h1 ix1 p
   leaf-stored leaf time {u} o = rw (← narrow-store r s time u, leaf-store (narrow-ready r s) least leaf time u) o
 
   module _ (node : m ≡ terminalLetter → ⊥) where
@@ -43,17 +44,17 @@ module _ {net : List ℕ} {n k : ℕ} {l w h : List ℕ} {used : ℕ} {roots : L
 
       -- the halves make the function in an open table
       pub halves-stored : {b : List ℕ} → HalfOf l h kept m b → (time : ℕ) {l1 w1 h1 ix1 : List ℕ} {used1 : ℕ} → Open k l1 w1 h1 ix1 used1
-          → Halves k (tableOf (columns l1 w1 h1) used1) m (settledBy (netCircuit net) time n k (tableOf (columns l w h) used) roots) (settledBy (netCircuit net) time n k (tableOf (columns l w h) used) a)
-          (λ _. settledBy (netCircuit net) time n k (tableOf (columns l w h) used) b)
+          → Halves k (held l1 w1 h1 used1) m (settledBy (netCircuit net) time n k (held l w h used) roots) (settledBy (netCircuit net) time n k (held l w h used) a)
+          (λ _. settledBy (netCircuit net) time n k (held l w h used) b)
       halves-stored high time {l1} {w1} {h1} {ix1} {used1} o =
-          let u : Table = tableOf (columns l1 w1 h1) used1 in
+          let u : Table = held l1 w1 h1 used1 in
           let g = going-halves (narrow-ready r s) least node low high time u (legible-sound (o .legible)) in
           record { halved = sym (narrow-store r s time u) ∙ g .halved; stable = g .stable }
 
       -- there is no room for the low one
       pub low-stopped : (time : ℕ) {l1 w1 h1 ix1 : List ℕ} {used1 : ℕ} → Open k l1 w1 h1 ix1 used1 → {l2 w2 h2 ix2 : List ℕ} {p : Put}
-          → Outcome (tableOf (columns l1 w1 h1) used1) (store k 0 (settledBy (netCircuit net) time n k (tableOf (columns l w h) used) a) (tableOf (columns l1 w1 h1) used1)) l2 w2 h2 ix2 p → p .full ≡ true
-          → Outcome (tableOf (columns l1 w1 h1) used1) (store k 0 (settledBy (netCircuit net) time n k (tableOf (columns l w h) used) roots) (tableOf (columns l1 w1 h1) used1)) l2 w2 h2 ix2 p
+          → Outcome (held l1 w1 h1 used1) (store k 0 (settledBy (netCircuit net) time n k (held l w h used) a) (held l1 w1 h1 used1)) l2 w2 h2 ix2 p → stopped (p .stop) ≡ true
+          → Outcome (held l1 w1 h1 used1) (store k 0 (settledBy (netCircuit net) time n k (held l w h used) roots) (held l1 w1 h1 used1)) l2 w2 h2 ix2 p
       low-stopped time o done full = low-full o (halves-stored (half-of l h kept m (s .long)) time o) done full
 
     pub highs-ready : {b : List ℕ} → HalfOf l h kept m b → Rooted net n k l w h used b (left - 1)

@@ -14,7 +14,7 @@ use Rattle.lists.proofs.Map.{map-at}
 use Rattle.diagram.specs.Pattern.{letterAt, withLetter}
 use Rattle.diagram.specs.Table.{Entry, Table, terminalLetter, terminal, entryAt, partOf, numberAt}
 use Rattle.diagram.specs.Store.{add, both, store}
-use Rattle.diagram.specs.Call.{tableOf}
+use Rattle.diagram.specs.Held.{held}
 use Rattle.diagram.proofs.Sound.{Sound}
 use Rattle.diagram.proofs.Number.{number-terminal, part-within, part-larger}
 use Rattle.diagram.proofs.Pattern.{with-lt}
@@ -22,7 +22,7 @@ use Rattle.diagram.proofs.Values.{number-part}
 use Rattle.diagram.proofs.Store.{store-ext, store-number}
 use Rattle.diagram.proofs.Shannon as shannon
 use Rattle.net.specs.Net.{netCircuit}
-use Rattle.table.specs.Holds.{columns}
+use Rattle.net.specs.Roots.{rootsLength}
 use Rattle.functions.specs.Open.{Legible, Operand}
 use Rattle.functions.proofs.Carry.{legible-sound, legible-long, letter-at, low-at, high-at, branch-letter, past-letter}
 use Rattle.functions.proofs.Halving.{Halves}
@@ -30,13 +30,13 @@ use Rattle.descent.specs.Settle.{leafAt, isTouched, settledAt, settledBy
 use Rattle.descent.specs.Piece.{Narrowed}
 use Rattle.descent.specs.Descend.{Inner, Entries, Least, HalfOf, NumbersOf, lowOf, LeafOf, Settleable, Rooted}
 
--- a list of 92 that a function of the roots makes
-pub by-roots : (f : ℕ → ℕ) (roots out : List ℕ) → length roots ≡ 92 → length out ≡ 92 → ((j : ℕ) → j < 92 → getD out j 0 ≡ f (getD roots j 0)) → out ≡ map f roots
+-- a list of as many that a function of the roots makes
+pub by-roots : (f : ℕ → ℕ) (roots out : List ℕ) → length roots ≡ rootsLength → length out ≡ rootsLength → ((j : ℕ) → j < rootsLength → getD out j 0 ≡ f (getD roots j 0)) → out ≡ map f roots
 by-roots f roots out lr lo is =
     ext-getD 0 out (map f roots) (lo ∙ sym (length-map roots f ∙ lr)) (λ j h. is j (omega arith) ∙ sym (map-at f roots 0 0 j (omega arith)))
 
 -- the numbers of roots that are terminals are their low parts
-pub numbers-low : {low roots out : List ℕ} → length roots ≡ 92 → NumbersOf low roots out → out ≡ lowOf low roots
+pub numbers-low : {low roots out : List ℕ} → length roots ≡ rootsLength → NumbersOf low roots out → out ≡ lowOf low roots
 numbers-low {low} {roots} {out} lr h = by-roots (λ (e : ℕ). getD low e 0) roots out lr (h .long) (h .is)
 
 -- by which a node may be settled
@@ -49,7 +49,7 @@ pub leaf-number : {net low roots out : List ℕ} {n : ℕ} (time v : ℕ) → Le
 leaf-number {net} {low} {roots} {out} {n} time v l h e = e ∙ ap (settledAt (netCircuit net) time n) (numbers-low (l .entries .long) h)
 
 -- the parts of any roots
-pub half-of : (letter side roots : List ℕ) (m : ℕ) → length roots ≡ 92 → HalfOf letter side roots m (map (λ (e : ℕ). cond (eqb (getD letter e 0) m) (getD side e 0) e) roots)
+pub half-of : (letter side roots : List ℕ) (m : ℕ) → length roots ≡ rootsLength → HalfOf letter side roots m (map (λ (e : ℕ). cond (eqb (getD letter e 0) m) (getD side e 0) e) roots)
 half-of letter side roots m long = record {
   long = length-map roots (λ (e : ℕ). cond (eqb (getD letter e 0) m) (getD side e 0) e) ∙ long;
   is = λ j h. map-at (λ (e : ℕ). cond (eqb (getD letter e 0) m) (getD side e 0) e) roots 0 0 j (omega arith);
@@ -72,8 +72,8 @@ cond-both F true x y = refl
 cond-both F false x y = refl
 
 -- any entries of the working columns are among the last k letters of k
-pub rooted-all : {net : List ℕ} {n k : ℕ} {l w h : List ℕ} {used : ℕ} {roots : List ℕ} → Inner net n → Legible k l w h used → length roots ≡ 92 → ((j : ℕ) → j < 92 → getD roots j 0 < used)
-    → AllCalm (netCircuit net) k (tableOf (columns l w h) used) roots → Rooted net n k l w h used roots k
+pub rooted-all : {net : List ℕ} {n k : ℕ} {l w h : List ℕ} {used : ℕ} {roots : List ℕ} → Inner net n → Legible k l w h used → length roots ≡ rootsLength → ((j : ℕ) → j < rootsLength → getD roots j 0 < used)
+    → AllCalm (netCircuit net) k (held l w h used) roots → Rooted net n k l w h used roots k
 rooted-all i o long in-columns calm = record { node = i; working = o; long = long; operand = λ j g. record { within = in-columns j g; from = omega arith }; calm = calm }
 
 -- the roots of a descent, by place
@@ -82,7 +82,7 @@ module _ {net : List ℕ} {n k : ℕ} {l w h : List ℕ} {used : ℕ} {roots : L
   c = netCircuit net
 
   abbrev t : Table
-  t = tableOf (columns l w h) used
+  t = held l w h used
 
   sound : Sound k t
   sound = legible-sound (r .working)
@@ -90,10 +90,10 @@ module _ {net : List ℕ} {n k : ℕ} {l w h : List ℕ} {used : ℕ} {roots : L
   long : length t ≡ used
   long = legible-long (r .working)
 
-  within : (j : ℕ) → j < 92 → getD roots j 0 < used
+  within : (j : ℕ) → j < rootsLength → getD roots j 0 < used
   within j g = r .operand j g .within
 
-  pub ready-roots : Roots k (tableOf (columns l w h) used) roots
+  pub ready-roots : Roots k (held l w h used) roots
   ready-roots = record { few = r .working .few; sound = r .working .sound; long = r .long; within = λ j g. omega (arith, within j g, long) }
 
   -- they are entries of each column
@@ -122,12 +122,12 @@ module _ {net : List ℕ} {n k : ℕ} {l w h : List ℕ} {used : ℕ} {roots : L
     }
 
     -- the same is stored
-    pub narrow-store : (time : ℕ) (u : Table) → store k 0 (settledBy (netCircuit net) time n k (tableOf (columns l w h) used) out) u ≡ store k 0 (settledBy (netCircuit net) time n k (tableOf (columns l w h) used) roots) u
+    pub narrow-store : (time : ℕ) (u : Table) → store k 0 (settledBy (netCircuit net) time n k (held l w h used) out) u ≡ store k 0 (settledBy (netCircuit net) time n k (held l w h used) roots) u
     narrow-store time u = store-ext k 0 (settledBy c time n k t out) (settledBy c time n k t roots) u (λ p _. s .settles k t ready-roots time p)
 
   module _ {m : ℕ} (least : Least l roots m) where
     module _ (leaf : m ≡ terminalLetter) where
-      all-terminals : (j : ℕ) → j < 92 → entryAt t (getD roots j 0) .letter ≡ terminalLetter
+      all-terminals : (j : ℕ) → j < rootsLength → entryAt t (getD roots j 0) .letter ≡ terminalLetter
       all-terminals j g =
           letter-at (r .working) (getD roots j 0) (within j g) ∙ past-letter (r .working) (getD roots j 0) (within j g) (omega (arith, least .least j g))
 
@@ -147,7 +147,7 @@ module _ {net : List ℕ} {n k : ℕ} {l w h : List ℕ} {used : ℕ} {roots : L
         calm = subst (λ (xs : List ℕ). isTouched xs ≡ true → Calm c xs) (same-numbers 0) (r .calm .calm 0 (pow-pos k));
       }
 
-      pub leaf-store : (time : ℕ) (u : Table) → store k 0 (settledBy (netCircuit net) time n k (tableOf (columns l w h) used) roots) u ≡ add (terminal (settledAt (netCircuit net) time n (lowOf w roots))) u
+      pub leaf-store : (time : ℕ) (u : Table) → store k 0 (settledBy (netCircuit net) time n k (held l w h used) roots) u ≡ add (terminal (settledAt (netCircuit net) time n (lowOf w roots))) u
       leaf-store time u = store-number k 0 (settledAt c time n (lowOf w roots)) (settledBy c time n k t roots) u (λ p _. ap (settledAt c time n) (same-numbers p))
 
     module _ (node : m ≡ terminalLetter → ⊥) where
@@ -166,24 +166,24 @@ module _ {net : List ℕ} {n k : ℕ} {l w h : List ℕ} {used : ℕ} {roots : L
       pub going-left : 1 ≤ left
       going-left = omega (arith, going-small, going-room)
 
-      from-letter : (j : ℕ) → j < 92 → m ≤ entryAt t (getD roots j 0) .letter
+      from-letter : (j : ℕ) → j < rootsLength → m ≤ entryAt t (getD roots j 0) .letter
       from-letter j g = omega (arith, least .least j g, letter-at (r .working) (getD roots j 0) (within j g))
 
       terminal-past : m < terminalLetter
       terminal-past = omega (arith, going-small, r .working .few)
 
       module _ (bit : ℕ) (one : bit ≤ 1) {out : List ℕ} (half : out ≡ shannon.parts t m bit roots) where
-        half-at : (j : ℕ) → j < 92 → getD out j 0 ≡ partOf t m bit (getD roots j 0)
+        half-at : (j : ℕ) → j < rootsLength → getD out j 0 ≡ partOf t m bit (getD roots j 0)
         half-at j g = ap (λ (xs : List ℕ). getD xs j 0) half ∙ map-at (partOf t m bit) roots 0 0 j (omega (arith, r .long))
 
         -- the numbers of the parts are those of the roots with the letter set
         half-numbers : (p : ℕ) → leafAt k t out p ≡ leafAt k t roots (withLetter m bit p)
         half-numbers p =
-            let size : length out ≡ 92 = ap length half ∙ length-map roots (partOf t m bit) ∙ r .long in
+            let size : length out ≡ rootsLength = ap length half ∙ length-map roots (partOf t m bit) ∙ r .long in
             ext-getD 0 (leafAt k t out p) (leafAt k t roots (withLetter m bit p))
             (length-map out (λ (e : ℕ). numberAt k t e p) ∙ size ∙ sym (length-map roots (λ (e : ℕ). numberAt k t e (withLetter m bit p)) ∙ r .long))
             (λ j g.
-            let few : j < 92 = omega (arith, length-map out (λ (e : ℕ). numberAt k t e p)) in
+            let few : j < rootsLength = omega (arith, length-map out (λ (e : ℕ). numberAt k t e p)) in
             map-at (λ (e : ℕ). numberAt k t e p) out 0 0 j (omega arith)
             ∙ ap (λ (e : ℕ). numberAt k t e p) (half-at j few)
             ∙ number-part t m bit (getD roots j 0) p (r .working .few) sound (omega (arith, within j few, long)) going-small one (from-letter j few)
@@ -228,8 +228,8 @@ module _ {net : List ℕ} {n k : ℕ} {l w h : List ℕ} {used : ℕ} {roots : L
 
       -- and make the function
       pub going-halves : {a b : List ℕ} → HalfOf l w roots m a → HalfOf l h roots m b → (time : ℕ) (u : Table) → Sound k u
-          → Halves k u m (settledBy (netCircuit net) time n k (tableOf (columns l w h) used) roots) (settledBy (netCircuit net) time n k (tableOf (columns l w h) used) a)
-          (λ _. settledBy (netCircuit net) time n k (tableOf (columns l w h) used) b)
+          → Halves k u m (settledBy (netCircuit net) time n k (held l w h used) roots) (settledBy (netCircuit net) time n k (held l w h used) a)
+          (λ _. settledBy (netCircuit net) time n k (held l w h used) b)
       going-halves {a} {b} fa fb time u su =
           let F : List ℕ → ℕ = settledAt c time n in
           let few : k ≤ 12 = r .working .few in

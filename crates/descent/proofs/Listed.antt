@@ -12,6 +12,7 @@ use borrow.Author.Tests.{eqb-true, ne-eqb}
 use Rattle.lists.proofs.Cases.{bool-cases, lt-or-ge, eq-or-ne}
 use Rattle.lists.proofs.Map.{map-at}
 use Rattle.diagram.specs.Table.{terminalLetter}
+use Rattle.net.specs.Roots.{rootsLength}
 use Rattle.descent.specs.Piece.{matters, Selected}
 use Rattle.descent.specs.Live.{Listed, Places, Live}
 use Rattle.descent.specs.Descend.{Least, HalfOf, NumbersOf}
@@ -23,11 +24,11 @@ cond-zero true x e = e
 cond-zero false x e = refl
 
 -- zeros: nothing has to be listed
-pub live-zeros : {live : List ℕ} {count : ℕ} → Places live count → Live (replicate 92 0) live count
-live-zeros p = record { long = refl; places = p; listed = λ j h. inl (getD-replicate 92 j 0 0 h) }
+pub live-zeros : {live : List ℕ} {count : ℕ} → Places live count → Live (replicate rootsLength 0) live count
+live-zeros p = record { long = refl; places = p; listed = λ j h. inl (getD-replicate rootsLength j 0 0 h) }
 
 -- all places are listed
-pub live-all : {roots live : List ℕ} → length roots ≡ 92 → length live ≡ 92 → ((i : ℕ) → i < 92 → getD live i 0 ≡ i) → Live roots live 92
+pub live-all : {roots live : List ℕ} → length roots ≡ rootsLength → length live ≡ rootsLength → ((i : ℕ) → i < rootsLength → getD live i 0 ≡ i) → Live roots live rootsLength
 live-all size long is = record {
   long = size;
   places = record { long = long; few = omega arith; place = λ i h. omega (arith, is i h) };
@@ -36,9 +37,9 @@ live-all size long is = record {
 
 -- the listed places before the i-th are filled; the others are 0 or listed
 pub record FilledAt (F : ℕ → ℕ) (live : List ℕ) (count i : ℕ) (out : List ℕ) : Type 0 where
-  pub long : length out ≡ 92
+  pub long : length out ≡ rootsLength
   pub done : (n : ℕ) → n < i → getD out (getD live n 0) 0 ≡ F (getD live n 0)
-  pub rest : (j : ℕ) → j < 92 → (getD out j 0 ≡ 0) ⊎ Listed live count j
+  pub rest : (j : ℕ) → j < rootsLength → (getD out j 0 ≡ 0) ⊎ Listed live count j
 
 pub at-none : (F : ℕ → ℕ) {live : List ℕ} {count : ℕ} {out : List ℕ} → Live out live count → FilledAt F live count 0 out
 at-none F o = record { long = o .long; done = λ n h. absurd (omega arith); rest = o .listed }
@@ -65,8 +66,8 @@ at-next {F} {live} {count} {i} {out} f p small v e =
     }
 
 -- all places, where what is not listed is 0
-pub at-all : {F : ℕ → ℕ} {live : List ℕ} {count i : ℕ} {out : List ℕ} → FilledAt F live count i out → count ≤ i → ((j : ℕ) → j < 92 → (F j ≡ 0) ⊎ Listed live count j)
-    → (j : ℕ) → j < 92 → getD out j 0 ≡ F j
+pub at-all : {F : ℕ → ℕ} {live : List ℕ} {count i : ℕ} {out : List ℕ} → FilledAt F live count i out → count ≤ i → ((j : ℕ) → j < rootsLength → (F j ≡ 0) ⊎ Listed live count j)
+    → (j : ℕ) → j < rootsLength → getD out j 0 ≡ F j
 at-all {F} {live} {count} {i} {out} f end zero j h =
     ⊎-elim
     (λ (z : F j ≡ 0). ⊎-elim (λ (o : getD out j 0 ≡ 0). o ∙ sym z) by (f .rest j h))
@@ -78,12 +79,12 @@ at-all {F} {live} {count} {i} {out} f end zero j h =
 
 -- those of the listed places before the i-th whose numbers are not 0 are listed again
 pub record KeptTo (F : ℕ → ℕ) (live : List ℕ) (i : ℕ) (list : List ℕ) (total : ℕ) : Type 0 where
-  pub long : length list ≡ 92
+  pub long : length list ≡ rootsLength
   pub fewer : total ≤ i
-  pub place : (n : ℕ) → n < total → getD list n 0 < 92
+  pub place : (n : ℕ) → n < total → getD list n 0 < rootsLength
   pub kept : (n : ℕ) → n < i → (F (getD live n 0) ≡ 0) ⊎ Listed list total (getD live n 0)
 
-pub kept-none : (F : ℕ → ℕ) (live list : List ℕ) → length list ≡ 92 → KeptTo F live 0 list 0
+pub kept-none : (F : ℕ → ℕ) (live list : List ℕ) → length list ≡ rootsLength → KeptTo F live 0 list 0
 kept-none F live list e = record { long = e; fewer = omega arith; place = λ n h. absurd (omega arith); kept = λ n h. absurd (omega arith) }
 
 module _ {F : ℕ → ℕ} {live : List ℕ} {count i : ℕ} {list : List ℕ} {total : ℕ} (k : KeptTo F live i list total) (p : Places live count) (small : i < count) (v : ℕ) (e : v ≡ F (getD live i 0)) where
@@ -129,7 +130,7 @@ module _ {roots live : List ℕ} {count : ℕ} (r : Live roots live count) (net 
   abbrev K : ℕ → ℕ
   K j = cond (matters net marks j) (getD roots j 0) 0
 
-  lost : (j : ℕ) → j < 92 → (cond (matters net marks j) (getD roots j 0) 0 ≡ 0) ⊎ Listed live count j
+  lost : (j : ℕ) → j < rootsLength → (cond (matters net marks j) (getD roots j 0) 0 ≡ 0) ⊎ Listed live count j
   lost j h = ⊎-elim (λ (z : getD roots j 0 ≡ 0). inl (cond-zero (matters net marks j) (getD roots j 0) z)) (λ (l : Listed live count j). inr l) (r .listed j h)
 
   module _ {out : List ℕ} {i : ℕ} (f : FilledAt (λ (j : ℕ). cond (matters net marks j) (getD roots j 0) 0) live count i out) (end : count ≤ i) where

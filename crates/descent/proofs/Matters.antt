@@ -8,7 +8,8 @@ use lib.ListN.{getD}
 use borrow.Author.Tests.{ne-eqb, lt-ltb, le-ltb}
 use Rattle.net.specs.Net.{nodesPlace, transistorsPlace, at, netTransistor}
 use Rattle.net.specs.Laid.{TransistorWithin}
-use Rattle.walk.specs.Ready.{Net}
+use Rattle.net.specs.Roots.{leafLength}
+use Rattle.plain.specs.Ready.{Net}
 use Rattle.descent.specs.Piece.{isIn, isNear, isTouching, matters}
 
 module _ (net marks : List ℕ) where
@@ -23,14 +24,14 @@ module _ (net marks : List ℕ) where
   matters-node j l h = rw (lt-ltb j 26 h, le-ltb j 2 l)
 
   -- a transistor that touches the piece
-  pub matters-arm : (j : ℕ) → 26 ≤ j → j < 90 → matters net marks j ≡ isTouching net marks (j - 26)
+  pub matters-arm : (j : ℕ) → 26 ≤ j → j < leafLength → matters net marks j ≡ isTouching net marks (j - 26)
   unfolding matters
-  matters-arm j l h = rw (le-ltb j 26 l, lt-ltb j 90 h)
+  matters-arm j l h = rw (le-ltb j 26 l, lt-ltb j leafLength h)
 
   -- touched and pending
-  pub matters-late : (j : ℕ) → 90 ≤ j → matters net marks j ≡ true
+  pub matters-late : (j : ℕ) → leafLength ≤ j → matters net marks j ≡ true
   unfolding matters
-  matters-late j h = rw (le-ltb j 26 (omega arith), le-ltb j 90 h)
+  matters-late j h = rw (le-ltb j 26 (omega arith), le-ltb j leafLength h)
 
   module _ (i : ℕ) where
     -- no transistor touches nothing

@@ -26,11 +26,12 @@ use Rattle.rules.proofs.State.{Numbered}
 use Rattle.rules.proofs.Walk.{sum-driven, sum-own, sum-arms, load-driven, load-own, load-arms, leads-ends, ends-near}
 use Rattle.rules.proofs.Local.{touches, Shared, Local, sum-local, load-local, change-local}
 use Rattle.net.specs.Net.{nodesPlace, transistorsPlace, at, netTransistor, netCircuit, armsFrom, armsOf, netArms}
-use Rattle.walk.specs.Leaf.{isKept, leafState, leafChannels, netChannel}
+use Rattle.plain.specs.Leaf.{isKept, leafState, leafChannels, netChannel}
 use Rattle.net.specs.Laid.{TransistorWithin}
-use Rattle.walk.specs.Ready.{Net}
+use Rattle.plain.specs.Ready.{Net}
 use Rattle.net.proofs.Laying.{nodes-length, transistors-length, transistor-at}
-use Rattle.walk.proofs.Cell.{inner-least, net-capacitance}
+use Rattle.net.specs.Roots.{leafLength, touchedPlace, pendingPlace, rootsLength}
+use Rattle.plain.proofs.Cell.{inner-least, net-capacitance}
 use Rattle.descent.specs.Settle.{leafAt, isTouched, pendingOf, settledAt, Roots, Calm}
 use Rattle.descent.specs.Piece.{isIn, isNear, isOff, Beside, Piece, isTouching, matters, Selected, Narrowed}
 use Rattle.descent.specs.Descend.{Inner}
@@ -58,14 +59,14 @@ arms-none away f o (k ∷ ks) h = rw (h k (List·Memᴰ·head refl)) (arms-none 
 
 module _ (letters : ℕ) (w : Table) (p : ℕ) where
   -- the number of a root
-  pub number-root : (xs : List ℕ) → length xs ≡ 92 → (j : ℕ) → j < 92 → getD (leafAt letters w xs p) j 0 ≡ numberAt letters w (getD xs j 0) p
+  pub number-root : (xs : List ℕ) → length xs ≡ rootsLength → (j : ℕ) → j < rootsLength → getD (leafAt letters w xs p) j 0 ≡ numberAt letters w (getD xs j 0) p
   number-root xs long j h = map-at (λ (e : ℕ). numberAt letters w e p) xs 0 0 j (omega arith)
 
   -- entry 0 is 0 everywhere
   pub number-zero : letters ≤ 12 → Sound letters w → numberAt letters w 0 p ≡ 0
   number-zero few s = number-terminal letters 0 w 0 p (omega arith) (ap (λ (x : Entry). x .letter) (s .zeroth)) ∙ ap (λ (x : Entry). x .low) (s .zeroth)
 
-  pub leaf-length : (xs : List ℕ) → length xs ≡ 92 → length (leafAt letters w xs p) ≡ 92
+  pub leaf-length : (xs : List ℕ) → length xs ≡ rootsLength → length (leafAt letters w xs p) ≡ rootsLength
   leaf-length xs long = length-map xs (λ (e : ℕ). numberAt letters w e p) ∙ long
 
 -- where a pattern is not touched the pending change stays
@@ -133,14 +134,14 @@ module _ {net roots marks : List ℕ} {n : ℕ} (inner : Inner net n) (piece : P
     sound = sound-record letters w (r .sound)
 
     -- a root that matters has its number
-    kept-number : (j : ℕ) → j < 92 → matters net marks j ≡ true → getD B j 0 ≡ getD A j 0
+    kept-number : (j : ℕ) → j < rootsLength → matters net marks j ≡ true → getD B j 0 ≡ getD A j 0
     kept-number j h e =
         number-root letters w p out (sel .long) j h
         ∙ ap (λ (x : ℕ). numberAt letters w x p) (sel .is j h ∙ rw e)
         ∙ sym (number-root letters w p roots (r .long) j h)
 
     -- another has 0
-    lost-number : (j : ℕ) → j < 92 → matters net marks j ≡ false → getD B j 0 ≡ 0
+    lost-number : (j : ℕ) → j < rootsLength → matters net marks j ≡ false → getD B j 0 ≡ 0
     lost-number j h e =
         number-root letters w p out (sel .long) j h
         ∙ ap (λ (x : ℕ). numberAt letters w x p) (sel .is j h ∙ rw e)
@@ -212,11 +213,11 @@ module _ {net roots marks : List ℕ} {n : ℕ} (inner : Inner net n) (piece : P
         values = λ m e. near-value m (in-numbered m e) (in-near m e);
       }
 
-    same-touched : getD B 90 0 ≡ getD A 90 0
-    same-touched = kept-number 90 (omega arith) (matters-late net marks 90 (omega arith))
+    same-touched : getD B touchedPlace 0 ≡ getD A touchedPlace 0
+    same-touched = kept-number touchedPlace (omega arith) (matters-late net marks touchedPlace (omega arith))
 
-    same-pending : getD B 91 0 ≡ getD A 91 0
-    same-pending = kept-number 91 (omega arith) (matters-late net marks 91 (omega arith))
+    same-pending : getD B pendingPlace 0 ≡ getD A pendingPlace 0
+    same-pending = kept-number pendingPlace (omega arith) (matters-late net marks pendingPlace (omega arith))
 
     -- so they settle the same
     narrow-settles : (time : ℕ) → settledAt c time n B ≡ settledAt c time n A
@@ -313,8 +314,8 @@ module _ {net roots marks : List ℕ} {n : ℕ} (inner : Inner net n) (piece : P
             (bool-cases (isIn marks m)))
             (bool-cases (isDriven c m))
 
-      first-of : (xs : List ℕ) (j : ℕ) → j < 90 → getD (take 90 xs) j 0 ≡ getD xs j 0
-      first-of xs j h = getD-take 90 xs j 0 h
+      first-of : (xs : List ℕ) (j : ℕ) → j < leafLength → getD (take leafLength xs) j 0 ≡ getD xs j 0
+      first-of xs j h = getD-take leafLength xs j 0 h
 
       -- and stay calm
       narrow-calm : Calm c B

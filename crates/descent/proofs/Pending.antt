@@ -9,18 +9,20 @@ use lib.Dec.{eqb}
 use Rattle.diagram.specs.Pattern.{letterAt}
 use Rattle.diagram.specs.Table.{Table, terminalLetter, terminal, entryAt, numberAt}
 use Rattle.diagram.specs.Store.{add, store}
-use Rattle.diagram.specs.Call.{tableOf}
+use Rattle.diagram.specs.Held.{held}
 use Rattle.diagram.proofs.Sound.{Branch, Sound}
 use Rattle.diagram.proofs.Number.{part-low, part-high, number-terminal}
 use Rattle.diagram.proofs.Store.{store-number, store-ext}
 use Rattle.diagram.proofs.Shannon.{split, store-halves, number-past, number-split}
 use Rattle.net.specs.Net.{netCircuit}
+use Rattle.net.specs.Roots.{touchedPlace, pendingPlace}
 use Rattle.table.specs.declared.Put.{Put}
-use Rattle.table.specs.Holds.{columns, Outcome}
+use Rattle.table.specs.Holds.{Outcome}
 use Rattle.functions.specs.Open.{Legible, Operand}
 use Rattle.functions.proofs.Carry.{legible-sound, legible-long, letter-at, low-at, high-at}
 use Rattle.functions.proofs.Halving.{Halves}
-use Rattle.descent.specs.Settle.{leafAt, isTouched, pendingAfter, pendingBy, settledBy}
+use Rattle.plain.specs.Settle.{pendingAfter}
+use Rattle.descent.specs.Settle.{leafAt, isTouched, pendingBy, settledBy}
 use Rattle.descent.specs.Descend.{Rooted}
 use Rattle.descent.proofs.Narrow.{number-root, number-zero, unsettled}
 
@@ -29,9 +31,9 @@ pending-both : (time : ℕ) (b : Bool) (x y : ℕ) → pendingAfter time (cond b
 pending-both time true x y = refl
 pending-both time false x y = refl
 
-module _ {letters : ℕ} {l w h : List ℕ} {used : ℕ} (o : Legible letters l w h used) {left e : ℕ} (x : Operand letters (tableOf (columns l w h) used) used left e) (time : ℕ) where
+module _ {letters : ℕ} {l w h : List ℕ} {used : ℕ} (o : Legible letters l w h used) {left e : ℕ} (x : Operand letters (held l w h used) used left e) (time : ℕ) where
   abbrev t : Table
-  t = tableOf (columns l w h) used
+  t = held l w h used
 
   sound : Sound letters t
   sound = legible-sound o
@@ -40,13 +42,13 @@ module _ {letters : ℕ} {l w h : List ℕ} {used : ℕ} (o : Legible letters l 
   inside = omega (arith, x .within, legible-long o)
 
   -- a terminal
-  quiet-terminal : (u : Table) → getD l e 0 ≡ terminalLetter → store letters 0 (pendingBy time letters (tableOf (columns l w h) used) e) u ≡ add (terminal (pendingAfter time (getD w e 0))) u
+  quiet-terminal : (u : Table) → getD l e 0 ≡ terminalLetter → store letters 0 (pendingBy time letters (held l w h used) e) u ≡ add (terminal (pendingAfter time (getD w e 0))) u
   quiet-terminal u q =
       store-number letters 0 (pendingAfter time (getD w e 0)) (pendingBy time letters t e) u
       (λ p _. ap (pendingAfter time) (number-terminal letters 0 t e p (omega (arith, o .few)) (letter-at o e (x .within) ∙ q) ∙ low-at o e (x .within)))
 
   pub quiet-leaf : {u : Table} {l1 w1 h1 ix1 : List ℕ} {r : Put} (v : ℕ) → v ≡ pendingAfter time (getD w e 0) → getD l e 0 ≡ terminalLetter → Outcome u (add (terminal v) u) l1 w1 h1 ix1 r
-      → Outcome u (store letters 0 (pendingBy time letters (tableOf (columns l w h) used) e) u) l1 w1 h1 ix1 r
+      → Outcome u (store letters 0 (pendingBy time letters (held l w h used) e) u) l1 w1 h1 ix1 r
   quiet-leaf {u} v is q done = rw (quiet-terminal u q, ← is) done
 
   module _ (node : getD l e 0 ≡ terminalLetter → ⊥) where
@@ -55,7 +57,7 @@ module _ {letters : ℕ} {l w h : List ℕ} {used : ℕ} (o : Legible letters l 
 
     -- a branch: its two parts
     pub quiet-halves : (u : Table) → Sound letters u
-        → Halves letters u (getD l e 0) (pendingBy time letters (tableOf (columns l w h) used) e) (pendingBy time letters (tableOf (columns l w h) used) (getD w e 0)) (λ v. pendingBy time letters (tableOf (columns l w h) used) (getD h e 0))
+        → Halves letters u (getD l e 0) (pendingBy time letters (held l w h used) e) (pendingBy time letters (held l w h used) (getD w e 0)) (λ v. pendingBy time letters (held l w h used) (getD h e 0))
     quiet-halves u su = record {
       halved =
           let m : ℕ = entryAt t e .letter in
@@ -70,18 +72,18 @@ module _ {letters : ℕ} {l w h : List ℕ} {used : ℕ} (o : Legible letters l 
     }
 
 -- roots that are touched nowhere
-module _ {net : List ℕ} {n k : ℕ} {l w h : List ℕ} {used : ℕ} {roots : List ℕ} {left : ℕ} (r : Rooted net n k l w h used roots left) (still : getD roots 90 0 ≡ 0) where
+module _ {net : List ℕ} {n k : ℕ} {l w h : List ℕ} {used : ℕ} {roots : List ℕ} {left : ℕ} (r : Rooted net n k l w h used roots left) (still : getD roots touchedPlace 0 ≡ 0) where
   -- settle the pending change
-  settled-pending : (time p : ℕ) → settledBy (netCircuit net) time n k (tableOf (columns l w h) used) roots p ≡ pendingBy time k (tableOf (columns l w h) used) (getD roots 91 0) p
+  settled-pending : (time p : ℕ) → settledBy (netCircuit net) time n k (held l w h used) roots p ≡ pendingBy time k (held l w h used) (getD roots pendingPlace 0) p
   settled-pending time p =
-      let t : Table = tableOf (columns l w h) used in
+      let t : Table = held l w h used in
       let untouched : isTouched (leafAt k t roots p) ≡ false =
       ap (λ (v : ℕ). eqb v 1)
-      (number-root k t p roots (r .long) 90 (omega arith) ∙ ap (λ (e : ℕ). numberAt k t e p) still ∙ number-zero k t p (r .working .few) (legible-sound (r .working))) in
-      unsettled (netCircuit net) time n (leafAt k t roots p) untouched ∙ ap (pendingAfter time) (number-root k t p roots (r .long) 91 (omega arith))
+      (number-root k t p roots (r .long) touchedPlace (omega arith) ∙ ap (λ (e : ℕ). numberAt k t e p) still ∙ number-zero k t p (r .working .few) (legible-sound (r .working))) in
+      unsettled (netCircuit net) time n (leafAt k t roots p) untouched ∙ ap (pendingAfter time) (number-root k t p roots (r .long) pendingPlace (omega arith))
 
   pub quiet-stored : (time : ℕ) {u : Table} {l1 w1 h1 ix1 : List ℕ} {p : Put}
-      → Outcome u (store k 0 (pendingBy time k (tableOf (columns l w h) used) (getD roots 91 0)) u) l1 w1 h1 ix1 p
-      → Outcome u (store k 0 (settledBy (netCircuit net) time n k (tableOf (columns l w h) used) roots) u) l1 w1 h1 ix1 p
+      → Outcome u (store k 0 (pendingBy time k (held l w h used) (getD roots pendingPlace 0)) u) l1 w1 h1 ix1 p
+      → Outcome u (store k 0 (settledBy (netCircuit net) time n k (held l w h used) roots) u) l1 w1 h1 ix1 p
   quiet-stored time {u} done =
-      rw (store-ext k 0 (settledBy (netCircuit net) time n k (tableOf (columns l w h) used) roots) (pendingBy time k (tableOf (columns l w h) used) (getD roots 91 0)) u (λ p _. settled-pending time p)) done
+      rw (store-ext k 0 (settledBy (netCircuit net) time n k (held l w h used) roots) (pendingBy time k (held l w h used) (getD roots pendingPlace 0)) u (λ p _. settled-pending time p)) done

@@ -11,26 +11,28 @@ use Rattle.lists.proofs.Cases.{eq-or-ne}
 use Rattle.diagram.specs.Pattern.{mostLetters, patterns}
 use Rattle.diagram.specs.Table.{Table}
 use Rattle.diagram.specs.Store.{stored, join, store}
-use Rattle.diagram.specs.Call.{tableOf}
+use Rattle.diagram.specs.Held.{held}
 use Rattle.diagram.proofs.Sound.{Sound}
 use Rattle.diagram.proofs.Add.{Extends}
 use Rattle.diagram.proofs.Number.{numberAt-extends}
 use Rattle.diagram.proofs.Store.{IsStored, store-stored, store-present, join-extends}
 use Rattle.table.specs.declared.Put.{Put}
-use Rattle.table.specs.Holds.{columns, Outcome}
+use Rattle.table.specs.declared.Stop.the-variants.{Going}
+use Rattle.table.specs.Stop.{stopped}
+use Rattle.table.specs.Holds.{Outcome}
 use Rattle.table.proofs.Outcomes.{put, holds-table, outcome-there}
 use Rattle.functions.specs.Open.{Open}
 use Rattle.functions.proofs.Carry.{legible-sound, open-next}
-use Rattle.descent.specs.Memo.{slotRoots, Means, Memo, Looked, Remembered}
+use Rattle.descent.specs.Memo.{memoLength, slotRoots, Means, Memo, Looked, Remembered}
 
 module _ {F : List ℕ → ℕ → ℕ} {k : ℕ} where
   -- free slots say nothing
-  pub memo-empty : (t : Table) (memo : List ℕ) → length memo ≡ 5952 → ((s : ℕ) → s < 64 → getD memo s 0 ≡ 0) → Memo F k t memo
+  pub memo-empty : (t : Table) (memo : List ℕ) → length memo ≡ memoLength → ((s : ℕ) → s < 64 → getD memo s 0 ≡ 0) → Memo F k t memo
   memo-empty t memo long free = record { long = long; is = λ s e h g. absurd (omega (arith, free s h)) }
 
   -- as those of a new memo
-  pub memo-new : (t : Table) → Memo F k t (replicate 5952 0)
-  memo-new t = memo-empty t (replicate 5952 0) (length-replicate {A = ℕ} 5952 0) (λ s h. getD-replicate {A = ℕ} 5952 s 0 0 (omega arith))
+  pub memo-new : (t : Table) → Memo F k t (replicate memoLength 0)
+  memo-new t = memo-empty t (replicate memoLength 0) (length-replicate {A = ℕ} memoLength 0) (λ s h. getD-replicate {A = ℕ} memoLength s 0 0 (omega arith))
 
   -- what it says stays right as the table grows
   pub memo-extends : {t u : Table} {memo : List ℕ} → k ≤ mostLetters → Sound k t → Extends t u → Memo F k t memo → Memo F k u memo
@@ -58,14 +60,14 @@ module _ {F : List ℕ → ℕ → ℕ} {k : ℕ} where
 -- in open columns
 module _ {k : ℕ} {l w h ix : List ℕ} {used : ℕ} (o : Open k l w h ix used) where
   abbrev t : Table
-  t = tableOf (columns l w h) used
+  t = held l w h used
 
   sound : Sound k t
   sound = legible-sound (o .legible)
 
   -- the entry of roots that were met before needs no storing
-  pub memo-hit : {F : List ℕ → ℕ → ℕ} {memo roots : List ℕ} {slot r : ℕ} → Memo F k (tableOf (columns l w h) used) memo → slot < 64 → Looked memo slot roots r → (r ≡ 0 → ⊥)
-      → Outcome (tableOf (columns l w h) used) (store k 0 (F roots) (tableOf (columns l w h) used)) l w h ix (put false (r - 1) used)
+  pub memo-hit : {F : List ℕ → ℕ → ℕ} {memo roots : List ℕ} {slot r : ℕ} → Memo F k (held l w h used) memo → slot < 64 → Looked memo slot roots r → (r ≡ 0 → ⊥)
+      → Outcome (held l w h used) (store k 0 (F roots) (held l w h used)) l w h ix (put Going (r - 1) used)
   memo-hit {F} {memo} {roots} {slot} {r} m small f n =
       let e : ℕ = r - 1 in
       let one : r ≡ suc e = omega arith in
@@ -73,12 +75,12 @@ module _ {k : ℕ} {l w h ix : List ℕ} {used : ℕ} (o : Open k l w h ix used)
       rw (store-present k 0 (F roots) t e (o .legible .few) sound (add-zero k) (a .within) (omega arith) (a .number)) (outcome-there (o .holds) e)
 
   -- a function was stored
-  module _ (f : ℕ → ℕ) {l1 w1 h1 ix1 : List ℕ} {p : Put} (o1 : Outcome (tableOf (columns l w h) used) (store k 0 f (tableOf (columns l w h) used)) l1 w1 h1 ix1 p) (room : p .full ≡ false) where
+  module _ (f : ℕ → ℕ) {l1 w1 h1 ix1 : List ℕ} {p : Put} (o1 : Outcome (held l w h used) (store k 0 f (held l w h used)) l1 w1 h1 ix1 p) (room : stopped (p .stop) ≡ false) where
     is-stored : IsStored k k 0 f t (store k 0 f t)
     is-stored = store-stored k 0 f t (o .legible .few) sound (omega arith)
 
     -- the memo is right in what the table has become
-    pub memo-after : {F : List ℕ → ℕ → ℕ} {memo : List ℕ} → Memo F k (tableOf (columns l w h) used) memo → Memo F k (tableOf (columns l1 w1 h1) (p .used)) memo
+    pub memo-after : {F : List ℕ → ℕ → ℕ} {memo : List ℕ} → Memo F k (held l w h used) memo → Memo F k (held l1 w1 h1 (p .used)) memo
     memo-after m = rw (holds-table (o1 .holds room)) (memo-extends (o .legible .few) sound (is-stored .extends) m)
 
     -- the columns are open again
@@ -90,13 +92,13 @@ module _ {k : ℕ} {l w h ix : List ℕ} {used : ℕ} (o : Open k l w h ix used)
     after-small = omega (arith, o1 .entry room, is-stored .within, o1 .holds room .ready .fits, o1 .holds room .long, o1 .holds room .ready .sized .most)
 
     -- and has the function's numbers
-    pub after-means : (F : List ℕ → ℕ → ℕ) (roots : List ℕ) → ((x : ℕ) → x < patterns k → F roots x ≡ f x) → Means F k (tableOf (columns l1 w1 h1) (p .used)) roots (p .entry)
+    pub after-means : (F : List ℕ → ℕ → ℕ) (roots : List ℕ) → ((x : ℕ) → x < patterns k → F roots x ≡ f x) → Means F k (held l1 w1 h1 (p .used)) roots (p .entry)
     after-means F roots same =
         rw (holds-table (o1 .holds room), o1 .entry room)
         record { within = is-stored .within; number = λ x g. is-stored .number x g ∙ sym (same x g) }
 
   -- two parts were joined
   pub memo-join : {F : List ℕ → ℕ → ℕ} {memo : List ℕ} (m a b : ℕ) {l1 w1 h1 ix1 : List ℕ} {p : Put}
-      → Outcome (tableOf (columns l w h) used) (join m (stored (tableOf (columns l w h) used) a) (stored (tableOf (columns l w h) used) b)) l1 w1 h1 ix1 p → p .full ≡ false
-      → Memo F k (tableOf (columns l w h) used) memo → Memo F k (tableOf (columns l1 w1 h1) (p .used)) memo
+      → Outcome (held l w h used) (join m (stored (held l w h used) a) (stored (held l w h used) b)) l1 w1 h1 ix1 p → stopped (p .stop) ≡ false
+      → Memo F k (held l w h used) memo → Memo F k (held l1 w1 h1 (p .used)) memo
   memo-join m a b o1 room x = rw (holds-table (o1 .holds room)) (memo-extends (o .legible .few) sound (join-extends m (stored t a) (stored t b)) x)

@@ -15,9 +15,9 @@ use Rattle.lists.proofs.Count.{count-ext, count-le, count-none}
 use Rattle.rules.specs.State.{isDriven}
 use Rattle.rules.specs.Sum.{farEnd}
 use Rattle.net.specs.Net.{nodesPlace, transistorsPlace, at, netTransistor, netCircuit, netArms}
-use Rattle.walk.specs.Leaf.{netChannel}
+use Rattle.plain.specs.Leaf.{netChannel}
 use Rattle.net.specs.Laid.{TransistorWithin}
-use Rattle.walk.specs.Ready.{Net}
+use Rattle.plain.specs.Ready.{Net}
 use Rattle.descent.specs.Descend.{Inner}
 use Rattle.descent.specs.Piece.{marksLength, isIn, isNear, isOff, Beside, Crossed, AllCrossed, Found, Searched, Piece}
 

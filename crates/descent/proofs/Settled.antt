@@ -25,8 +25,10 @@ use Rattle.rules.proofs.Step.{initial-shaped, initial-change, started-change}
 use Rattle.rules.proofs.Label.{AllLegal, Linked, Linked·same, Linked·over, groups-join, joined-refl, joined-trans}
 use Rattle.rules.proofs.Forest.{kept-stems}
 use Rattle.rules.proofs.Local.{only, touches, Shared, Local, change-local}
-use Rattle.walk.specs.Leaf.{isKept, leafState, leafChannels}
-use Rattle.descent.specs.Settle.{pendingPlace, leafAt, isTouched, pendingAfter, pendingOf, settledAt, settledBy, isOf}
+use Rattle.net.specs.Roots.{pendingPlace}
+use Rattle.plain.specs.Leaf.{isKept, leafState, leafChannels}
+use Rattle.plain.specs.Settle.{pendingAfter}
+use Rattle.descent.specs.Settle.{leafAt, isTouched, pendingOf, settledAt, settledBy, isOf}
 use Rattle.descent.proofs.Channels.{by-only, kept-by, leaf-change, leaf-values}
 
 -- the numbers of a pattern are right for the kept transistors of n's group

@@ -7,27 +7,28 @@ use native.Mathlib.Omega.{arith}
 use lib.ListN.{length, getD, set, drop, length-set, length-take, length-drop}
 use lib.Seq.{getD-take, getD-drop, getD-set-same, getD-set-other, ext-getD}
 use Rattle.lists.proofs.Cases.{eq-or-ne, lt-or-ge}
-use Rattle.descent.specs.Memo.{slotRoots, Looked, Remembered}
+use Rattle.net.specs.Roots.{rootsLength}
+use Rattle.descent.specs.Memo.{memoLength, slotRoots, Looked, Remembered}
 
 -- the place of root i of slot s
 abbrev pub place : ℕ → ℕ → ℕ
-place s i = 64 + 92 * s + i
+place s i = 64 + rootsLength * s + i
 
 -- the roots of a slot, place by place
-pub slot-at : (memo : List ℕ) (s i : ℕ) → i < 92 → getD (slotRoots memo s) i 0 ≡ getD memo (place s i) 0
-slot-at memo s i h = getD-take 92 (drop (64 + 92 * s) memo) i 0 h ∙ getD-drop (64 + 92 * s) memo i 0
+pub slot-at : (memo : List ℕ) (s i : ℕ) → i < rootsLength → getD (slotRoots memo s) i 0 ≡ getD memo (place s i) 0
+slot-at memo s i h = getD-take rootsLength (drop (64 + rootsLength * s) memo) i 0 h ∙ getD-drop (64 + rootsLength * s) memo i 0
 
--- there are 92
-pub slot-length : (memo : List ℕ) (s : ℕ) → length memo ≡ 5952 → s < 64 → length (slotRoots memo s) ≡ 92
+-- as many as a node has
+pub slot-length : (memo : List ℕ) (s : ℕ) → length memo ≡ memoLength → s < 64 → length (slotRoots memo s) ≡ rootsLength
 slot-length memo s long small =
-    let d : length (drop (64 + 92 * s) memo) ≡ 5952 - (64 + 92 * s) = length-drop (64 + 92 * s) memo ∙ ap (λ (n : ℕ). n - (64 + 92 * s)) long in
+    let d : length (drop (64 + rootsLength * s) memo) ≡ memoLength - (64 + rootsLength * s) = length-drop (64 + rootsLength * s) memo ∙ ap (λ (n : ℕ). n - (64 + rootsLength * s)) long in
     simp length-take (omega arith)
 
 -- the roots of a slot are those that stand in its places
-pub slot-is : (memo : List ℕ) (s : ℕ) (roots : List ℕ) → length memo ≡ 5952 → s < 64 → length roots ≡ 92
-    → ((i : ℕ) → i < 92 → getD memo (place s i) 0 ≡ getD roots i 0) → slotRoots memo s ≡ roots
+pub slot-is : (memo : List ℕ) (s : ℕ) (roots : List ℕ) → length memo ≡ memoLength → s < 64 → length roots ≡ rootsLength
+    → ((i : ℕ) → i < rootsLength → getD memo (place s i) 0 ≡ getD roots i 0) → slotRoots memo s ≡ roots
 slot-is memo s roots long small lr is =
-    let n : length (slotRoots memo s) ≡ 92 = slot-length memo s long small in
+    let n : length (slotRoots memo s) ≡ rootsLength = slot-length memo s long small in
     ext-getD 0 (slotRoots memo s) roots (n ∙ sym lr) (λ i h. slot-at memo s i (omega arith) ∙ is i (omega arith))
 
 -- the first roots of a slot were compared
@@ -51,7 +52,7 @@ pub looked-free : {memo : List ℕ} {slot : ℕ} (roots : List ℕ) → getD mem
 looked-free roots e = record { word = λ n. absurd (n refl); key = λ n. absurd (n refl); found = λ _. sym e }
 
 -- other roots
-pub looked-other : {memo : List ℕ} {slot : ℕ} {roots : List ℕ} {i : ℕ} → i < 92 → (getD memo (place slot i) 0 ≡ getD roots i 0 → ⊥) → Looked memo slot roots 0
+pub looked-other : {memo : List ℕ} {slot : ℕ} {roots : List ℕ} {i : ℕ} → i < rootsLength → (getD memo (place slot i) 0 ≡ getD roots i 0 → ⊥) → Looked memo slot roots 0
 looked-other {memo} {slot} {roots} {i} h other = record {
   word = λ n. absurd (n refl);
   key = λ n. absurd (n refl);
@@ -59,20 +60,20 @@ looked-other {memo} {slot} {roots} {i} h other = record {
 }
 
 -- the same roots
-pub looked-same : {memo : List ℕ} {slot : ℕ} {roots : List ℕ} {i : ℕ} → length memo ≡ 5952 → slot < 64 → length roots ≡ 92 → 92 ≤ i → SameTo memo slot roots i → Looked memo slot roots (getD memo slot 0)
+pub looked-same : {memo : List ℕ} {slot : ℕ} {roots : List ℕ} {i : ℕ} → length memo ≡ memoLength → slot < 64 → length roots ≡ rootsLength → rootsLength ≤ i → SameTo memo slot roots i → Looked memo slot roots (getD memo slot 0)
 looked-same {memo} {slot} {roots} long small lr le h = record { word = λ _. refl; key = λ _. slot-is memo slot roots long small lr (λ j g. h .is j (omega arith)); found = λ _. refl }
 
 -- the first i roots of a slot were replaced
 pub record KeptTo (memo : List ℕ) (slot : ℕ) (roots : List ℕ) (i : ℕ) (out : List ℕ) : Type 0 where
-  pub long : length out ≡ 5952
+  pub long : length out ≡ memoLength
   pub is : (j : ℕ) → j < i → getD out (place slot j) 0 ≡ getD roots j 0
   pub before : (j : ℕ) → j < place slot 0 → getD out j 0 ≡ getD memo j 0
   pub past : (j : ℕ) → place slot i ≤ j → getD out j 0 ≡ getD memo j 0
 
-pub kept-none : (memo : List ℕ) (slot : ℕ) (roots : List ℕ) → length memo ≡ 5952 → KeptTo memo slot roots 0 memo
+pub kept-none : (memo : List ℕ) (slot : ℕ) (roots : List ℕ) → length memo ≡ memoLength → KeptTo memo slot roots 0 memo
 kept-none memo slot roots long = record { long = long; is = λ j h. absurd (omega arith); before = λ j _. refl; past = λ j _. refl }
 
-pub kept-next : {memo : List ℕ} {slot : ℕ} {roots : List ℕ} {i : ℕ} {out : List ℕ} → slot < 64 → i < 92 → KeptTo memo slot roots i out
+pub kept-next : {memo : List ℕ} {slot : ℕ} {roots : List ℕ} {i : ℕ} {out : List ℕ} → slot < 64 → i < rootsLength → KeptTo memo slot roots i out
     → KeptTo memo slot roots (i + 1) (set out (place slot i) (getD roots i 0))
 kept-next {memo} {slot} {roots} {i} {out} small few h =
     let v : ℕ = getD roots i 0 in
@@ -88,14 +89,14 @@ kept-next {memo} {slot} {roots} {i} {out} small few h =
     }
 
 -- the places of two slots differ
-apart : (s slot i : ℕ) → slot ≤ s → (s ≡ slot → ⊥) → place slot 92 ≤ place s i
+apart : (s slot i : ℕ) → slot ≤ s → (s ≡ slot → ⊥) → place slot rootsLength ≤ place s i
 apart s slot i le n = omega arith
 
 -- all were replaced, and then its word
-pub kept-all : {memo : List ℕ} {slot : ℕ} {roots : List ℕ} {e i : ℕ} {out : List ℕ} → length memo ≡ 5952 → slot < 64 → length roots ≡ 92 → i ≡ 92 → KeptTo memo slot roots i out
+pub kept-all : {memo : List ℕ} {slot : ℕ} {roots : List ℕ} {e i : ℕ} {out : List ℕ} → length memo ≡ memoLength → slot < 64 → length roots ≡ rootsLength → i ≡ rootsLength → KeptTo memo slot roots i out
     → Remembered memo slot roots e (set out slot (e + 1))
 kept-all {memo} {slot} {roots} {e} {i} {out} long small lr last h =
-    let size : length (set out slot (e + 1)) ≡ 5952 = length-set out slot (e + 1) ∙ h .long in
+    let size : length (set out slot (e + 1)) ≡ memoLength = length-set out slot (e + 1) ∙ h .long in
     let key-at : (s i : ℕ) → getD (set out slot (e + 1)) (place s i) 0 ≡ getD out (place s i) 0 =
     λ s i. getD-set-other out slot (place s i) (e + 1) 0 (λ (q : place s i ≡ slot). absurd (omega arith)) in
     let one : e + 1 ≡ suc e = omega arith in

@@ -6,13 +6,13 @@ use Prim.Native.Nat.{ℕ, _<_, _≤_}
 use lib.ListN.{length, getD}
 use lib.Dec.{eqb}
 use Rattle.diagram.specs.Table.{terminalLetter}
-use Rattle.diagram.specs.Call.{tableOf}
+use Rattle.diagram.specs.Held.{held}
 use Rattle.rules.specs.State.{isDriven}
 use Rattle.net.specs.Net.{netCircuit}
-use Rattle.walk.specs.Ready.{Net, Noded}
-use Rattle.table.specs.Holds.{columns}
+use Rattle.net.specs.Roots.{rootsLength}
+use Rattle.plain.specs.Ready.{Net, Noded}
 use Rattle.functions.specs.Open.{Legible, Operand}
-use Rattle.descent.specs.Settle.{rootsLength, isTouched, Calm, AllCalm}
+use Rattle.descent.specs.Settle.{isTouched, Calm, AllCalm}
 
 -- an inner node of the cell
 pub record Inner (net : List ℕ) (n : ℕ) : Type 0 where
@@ -61,5 +61,5 @@ pub record Rooted (net : List ℕ) (n k : ℕ) (l w h : List ℕ) (used : ℕ) (
   pub node : Inner net n
   pub working : Legible k l w h used
   pub long : length roots ≡ rootsLength
-  pub operand : (j : ℕ) → j < rootsLength → Operand k (tableOf (columns l w h) used) used left (getD roots j 0)
-  pub calm : AllCalm (netCircuit net) k (tableOf (columns l w h) used) roots
+  pub operand : (j : ℕ) → j < rootsLength → Operand k (held l w h used) used left (getD roots j 0)
+  pub calm : AllCalm (netCircuit net) k (held l w h used) roots

@@ -4,7 +4,7 @@ use mathlib.Core.Logic.{_⊎_}
 use mathlib.Core.List.{List}
 use Prim.Native.Nat.{ℕ, _<_, _≤_}
 use lib.ListN.{length, getD}
-use Rattle.descent.specs.Settle.{rootsLength}
+use Rattle.net.specs.Roots.{rootsLength}
 
 -- place j is one of the first `count` of a list
 abbrev pub Listed : List ℕ → ℕ → ℕ → Type 0

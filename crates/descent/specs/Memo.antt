@@ -5,17 +5,18 @@ use Prim.Native.Nat.{ℕ, suc, _+_, _*_, _<_}
 use lib.ListN.{length, getD, take, drop}
 use Rattle.diagram.specs.Pattern.{patterns}
 use Rattle.diagram.specs.Table.{Table, numberAt}
+use Rattle.net.specs.Roots.{rootsLength}
 
 -- a word for each slot, 0 where it is free, else its entry and one more; then the roots of each slot
 abbrev pub slots : ℕ
 slots = 64
 
 abbrev pub memoLength : ℕ
-memoLength = 5952
+memoLength = slots * (rootsLength + 1)
 
 -- the roots of slot s
 abbrev pub slotRoots : List ℕ → ℕ → List ℕ
-slotRoots memo s = take 92 (drop (slots + 92 * s) memo)
+slotRoots memo s = take rootsLength (drop (slots + rootsLength * s) memo)
 
 -- entry e is what roots settle, by F, at every pattern
 pub record Means (F : List ℕ → ℕ → ℕ) (letters : ℕ) (t : Table) (roots : List ℕ) (e : ℕ) : Type 0 where

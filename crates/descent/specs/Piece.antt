@@ -12,8 +12,9 @@ use Rattle.diagram.specs.Table.{Table}
 use Rattle.rules.specs.State.{isDriven}
 use Rattle.rules.specs.Sum.{farEnd}
 use Rattle.net.specs.Net.{nodesPlace, transistorsPlace, at, netTransistor, netCircuit, netArms}
-use Rattle.walk.specs.Leaf.{keptPlace, leafLength, netChannel}
-use Rattle.descent.specs.Settle.{rootsLength, leafAt, isTouched, settledAt, Roots, Calm}
+use Rattle.net.specs.Roots.{keptPlace, leafLength, rootsLength}
+use Rattle.plain.specs.Leaf.{netChannel}
+use Rattle.descent.specs.Settle.{leafAt, isTouched, settledAt, Roots, Calm}
 
 -- marks of the nodes by number: 1 in the piece, 2 a driven end beside it, 0 neither
 abbrev pub marksLength : ℕ

@@ -7,23 +7,15 @@ use lib.ListN.{length, getD, take}
 use lib.Dec.{eqb}
 use Rattle.format.specs.Circuit.{Circuit}
 use Rattle.diagram.specs.Pattern.{mostLetters, patterns}
-use Rattle.diagram.specs.Table.{Table, never, numberAt}
+use Rattle.diagram.specs.Table.{Table, numberAt}
 use Rattle.diagram.specs.Sound.{sound}
 use Rattle.rules.specs.Group.{some}
 use Rattle.rules.specs.Kept.{Channel}
 use Rattle.rules.specs.Step.{nextChange}
-use Rattle.walk.specs.Leaf.{leafLength, leafState, leafChannels}
-use Rattle.walk.specs.Ready.{Leaf, Ranged}
-
--- the places of the roots: those of a leaf, then whether the node's group is touched, then the node's pending change
-abbrev pub touchedPlace : ℕ
-touchedPlace = 90
-
-abbrev pub pendingPlace : ℕ
-pendingPlace = 91
-
-abbrev pub rootsLength : ℕ
-rootsLength = 92
+use Rattle.net.specs.Roots.{leafLength, touchedPlace, pendingPlace, rootsLength}
+use Rattle.plain.specs.Leaf.{leafState, leafChannels}
+use Rattle.plain.specs.Ready.{Leaf, Ranged}
+use Rattle.plain.specs.Settle.{pendingAfter}
 
 -- the numbers of the roots, entries of a table, at a pattern
 abbrev pub leafAt : ℕ → Table → List ℕ → ℕ → List ℕ
@@ -32,10 +24,7 @@ leafAt letters w roots p = map (λ (e : ℕ). numberAt letters w e p) roots
 abbrev pub isTouched : List ℕ → Bool
 isTouched numbers = eqb (getD numbers touchedPlace 0) 1
 
--- the pending change once T has happened: a node whose change was T has flipped, and has none
-abbrev pub pendingAfter : ℕ → ℕ → ℕ
-pendingAfter time pending = cond (eqb pending time) never pending
-
+-- the pending change once T has happened
 abbrev pub pendingOf : ℕ → List ℕ → ℕ
 pendingOf time numbers = pendingAfter time (getD numbers pendingPlace 0)
 

@@ -1,11 +1,11 @@
 // The descent: the halves of all roots at their least letter, low first, then high, then the root entry.
-use crate::PENDING;
-use crate::TOUCHED;
+use crate::PLACES;
 use crate::live::all_places;
 use crate::live::halve;
 use crate::live::least_live;
 use crate::live::live_numbers;
 use crate::live::narrow;
+use crate::memo::MEMO;
 use crate::memo::bucket;
 use crate::memo::keep;
 use crate::memo::look;
@@ -13,15 +13,21 @@ use crate::quiet::quiet;
 use crate::settle::settled;
 use functions::numbers::TERMINAL;
 use functions::step::join;
+use net::roots::PENDING;
+use net::roots::ROOTS;
+use net::roots::TOUCHED;
 use table::Put;
+use table::Stop;
+use table::stopped;
 ghost use mathlib.Core.Path.{_≡_};
 ghost use mathlib.Core.Bool.{false};
 ghost use lib.ListN.{getD};
 ghost use Rattle.diagram.specs.Table.{terminal};
 ghost use Rattle.diagram.specs.Store.{add as addOf, store};
-ghost use Rattle.diagram.specs.Call.{tableOf};
+ghost use Rattle.diagram.specs.Held.{held};
 ghost use Rattle.net.specs.Net.{netCircuit};
-ghost use Rattle.table.specs.Holds.{columns, Holds, Outcome};
+ghost use Rattle.table.specs.Holds.{Holds, Outcome};
+ghost use Rattle.table.specs.Stop.{stopped};
 ghost use Rattle.functions.specs.Open.{Open};
 ghost use Rattle.descent.specs.Settle.{settledAt, settledBy};
 ghost use Rattle.descent.specs.Live.{Live};
@@ -32,8 +38,8 @@ ghost use Rattle.descent.specs.Descend.{LeafOf, Rooted, lowOf};
 fn leaf(
     net: &[u32],
     wlow: &[u32],
-    roots: &[u32; 92],
-    live: &[u32; 92],
+    roots: &[u32; ROOTS],
+    live: &[u32; ROOTS],
     count: u32,
     time: u32,
     n: u32,
@@ -45,8 +51,8 @@ fn leaf(
 ) -> Put
     requires { ⌜ LeafOf (now net) n (now wlow) (now roots) × (getD (now wlow) 0 0 ≡ 0) ⌝ }
     requires { ⌜ Live (now roots) (now live) count ⌝ }
-    requires { ⌜ Holds (now letter) (now low) (now high) (now index) (tableOf (columns (now letter) (now low) (now high)) used) used ⌝ }
-    ensures { λ r. ⌜ Outcome (tableOf (columns (now (letter .entry)) (now (low .entry)) (now (high .entry))) used) (addOf (terminal (settledAt (netCircuit (now (net .entry))) time n (lowOf (now (wlow .entry)) (now (roots .entry))))) (tableOf (columns (now (letter .entry)) (now (low .entry)) (now (high .entry))) used)) (now (letter .exit)) (now (low .exit)) (now (high .exit)) (now (index .exit)) r ⌝ }
+    requires { ⌜ Holds (now letter) (now low) (now high) (now index) (held (now letter) (now low) (now high) used) used ⌝ }
+    ensures { λ r. ⌜ Outcome (held (now (letter .entry)) (now (low .entry)) (now (high .entry)) used) (addOf (terminal (settledAt (netCircuit (now (net .entry))) time n (lowOf (now (wlow .entry)) (now (roots .entry))))) (held (now (letter .entry)) (now (low .entry)) (now (high .entry)) used)) (now (letter .exit)) (now (low .exit)) (now (high .exit)) (now (index .exit)) r ⌝ }
 {
     let numbers = live_numbers(wlow, roots, live, count);
     let v = settled(net, &numbers, time, n);
@@ -69,18 +75,18 @@ fn down(
     k: u32,
     time: u32,
     n: u32,
-    roots: &[u32; 92],
-    live: &[u32; 92],
+    roots: &[u32; ROOTS],
+    live: &[u32; ROOTS],
     count: u32,
     left: u32,
-    memo: &mut [u32; 5952],
+    memo: &mut [u32; MEMO],
 ) -> Put
     requires { ⌜ Rooted (now net) n k (now wletter) (now wlow) (now whigh) wused (now roots) left ⌝ }
     requires { ⌜ Live (now roots) (now live) count ⌝ }
     requires { ⌜ Open k (now letter) (now low) (now high) (now index) used ⌝ }
-    requires { ⌜ Memo (settledBy (netCircuit (now net)) time n k (tableOf (columns (now wletter) (now wlow) (now whigh)) wused)) k (tableOf (columns (now letter) (now low) (now high)) used) (now memo) ⌝ }
-    ensures { λ r. ⌜ Outcome (tableOf (columns (now (letter .entry)) (now (low .entry)) (now (high .entry))) used) (store k 0 (settledBy (netCircuit (now (net .entry))) time n k (tableOf (columns (now (wletter .entry)) (now (wlow .entry)) (now (whigh .entry))) wused) (now (roots .entry))) (tableOf (columns (now (letter .entry)) (now (low .entry)) (now (high .entry))) used)) (now (letter .exit)) (now (low .exit)) (now (high .exit)) (now (index .exit)) r ⌝ }
-    ensures { λ r. ⌜ (r .full ≡ false → Memo (settledBy (netCircuit (now (net .entry))) time n k (tableOf (columns (now (wletter .entry)) (now (wlow .entry)) (now (whigh .entry))) wused)) k (tableOf (columns (now (letter .exit)) (now (low .exit)) (now (high .exit))) (r .used)) (now (memo .exit))) ⌝ }
+    requires { ⌜ Memo (settledBy (netCircuit (now net)) time n k (held (now wletter) (now wlow) (now whigh) wused)) k (held (now letter) (now low) (now high) used) (now memo) ⌝ }
+    ensures { λ r. ⌜ Outcome (held (now (letter .entry)) (now (low .entry)) (now (high .entry)) used) (store k 0 (settledBy (netCircuit (now (net .entry))) time n k (held (now (wletter .entry)) (now (wlow .entry)) (now (whigh .entry)) wused) (now (roots .entry))) (held (now (letter .entry)) (now (low .entry)) (now (high .entry)) used)) (now (letter .exit)) (now (low .exit)) (now (high .exit)) (now (index .exit)) r ⌝ }
+    ensures { λ r. ⌜ (stopped (r .stop) ≡ false → Memo (settledBy (netCircuit (now (net .entry))) time n k (held (now (wletter .entry)) (now (wlow .entry)) (now (whigh .entry)) wused)) k (held (now (letter .exit)) (now (low .exit)) (now (high .exit)) (r .used)) (now (memo .exit))) ⌝ }
 {
     if roots[TOUCHED] == 0 {
         let e = roots[PENDING];
@@ -100,8 +106,8 @@ fn down(
             left,
         );
     }
-    let mut kept: [u32; 92] = [0; 92];
-    let mut list: [u32; 92] = [0; 92];
+    let mut kept: [u32; ROOTS] = [0; ROOTS];
+    let mut list: [u32; ROOTS] = [0; ROOTS];
     let total = narrow(net, n, roots, live, count, &mut kept, &mut list);
     let m = least_live(wletter, &kept, &list, total);
     if m == TERMINAL {
@@ -124,12 +130,12 @@ fn down(
     let old = look(memo, slot, &kept);
     if old != 0 {
         return Put {
-            full: false,
+            stop: Stop::Going,
             entry: old - 1,
             used,
         };
     }
-    let mut half: [u32; 92] = [0; 92];
+    let mut half: [u32; ROOTS] = [0; ROOTS];
     halve(wletter, wlow, &kept, &list, total, m, &mut half);
     let p = down(
         net,
@@ -151,7 +157,8 @@ fn down(
         left - 1,
         memo,
     );
-    if p.full {
+    let why = p.stop;
+    if stopped(why) {
         return p;
     }
     halve(wletter, whigh, &kept, &list, total, m, &mut half);
@@ -175,11 +182,13 @@ fn down(
         left - 1,
         memo,
     );
-    if q.full {
+    let why = q.stop;
+    if stopped(why) {
         return q;
     }
     let r = join(letter, low, high, index, q.used, m, p.entry, q.entry);
-    if r.full {
+    let why = r.stop;
+    if stopped(why) {
         return r;
     }
     keep(memo, slot, &kept, r.entry);
@@ -201,15 +210,15 @@ pub fn descend(
     k: u32,
     time: u32,
     n: u32,
-    roots: &[u32; 92],
+    roots: &[u32; ROOTS],
     left: u32,
 ) -> Put
     requires { ⌜ Rooted (now net) n k (now wletter) (now wlow) (now whigh) wused (now roots) left ⌝ }
     requires { ⌜ Open k (now letter) (now low) (now high) (now index) used ⌝ }
-    ensures { λ r. ⌜ Outcome (tableOf (columns (now (letter .entry)) (now (low .entry)) (now (high .entry))) used) (store k 0 (settledBy (netCircuit (now (net .entry))) time n k (tableOf (columns (now (wletter .entry)) (now (wlow .entry)) (now (whigh .entry))) wused) (now (roots .entry))) (tableOf (columns (now (letter .entry)) (now (low .entry)) (now (high .entry))) used)) (now (letter .exit)) (now (low .exit)) (now (high .exit)) (now (index .exit)) r ⌝ }
+    ensures { λ r. ⌜ Outcome (held (now (letter .entry)) (now (low .entry)) (now (high .entry)) used) (store k 0 (settledBy (netCircuit (now (net .entry))) time n k (held (now (wletter .entry)) (now (wlow .entry)) (now (whigh .entry)) wused) (now (roots .entry))) (held (now (letter .entry)) (now (low .entry)) (now (high .entry)) used)) (now (letter .exit)) (now (low .exit)) (now (high .exit)) (now (index .exit)) r ⌝ }
 {
     let live = all_places();
-    let mut memo: [u32; 5952] = [0; 5952];
+    let mut memo: [u32; MEMO] = [0; MEMO];
     down(
         net,
         wletter,
@@ -226,7 +235,7 @@ pub fn descend(
         n,
         roots,
         &live,
-        92,
+        PLACES,
         left,
         &mut memo,
     )

@@ -1,5 +1,6 @@
 // Roots and their letters: the least letter, the parts at a letter, and the numbers of terminals.
 use functions::numbers::TERMINAL;
+use net::roots::ROOTS;
 ghost use mathlib.Core.Path.{_≡_};
 ghost use mathlib.Core.Bool.{cond};
 ghost use Prim.Native.Nat.{_<_, min};
@@ -22,13 +23,13 @@ pub fn least(x: u32, y: u32) -> u32
 }
 
 // The least letter of the roots; a terminal's where all are terminals.
-pub fn least_letter(letter: &[u32], roots: &[u32; 92]) -> u32
+pub fn least_letter(letter: &[u32], roots: &[u32; ROOTS]) -> u32
     requires { ⌜ Entries (now letter) (now roots) ⌝ }
     ensures { λ r. ⌜ Least (now (letter .entry)) (now (roots .entry)) r ⌝ }
 {
     let mut m = TERMINAL;
     let mut j: usize = 0;
-    while j < 92 {
+    while j < ROOTS {
         m = least(m, entry_of(letter, roots[j]));
         j += 1;
     }
@@ -48,13 +49,13 @@ pub fn part(letter: &[u32], side: &[u32], m: u32, e: u32) -> u32
 }
 
 // The low or high parts of all roots at letter m.
-pub fn halves(letter: &[u32], side: &[u32], roots: &[u32; 92], m: u32) -> [u32; 92]
+pub fn halves(letter: &[u32], side: &[u32], roots: &[u32; ROOTS], m: u32) -> [u32; ROOTS]
     requires { ⌜ Entries (now letter) (now roots) × (length (now side) ≡ length (now letter)) ⌝ }
     ensures { λ r. ⌜ HalfOf (now (letter .entry)) (now (side .entry)) (now (roots .entry)) m r ⌝ }
 {
-    let mut out: [u32; 92] = [0; 92];
+    let mut out: [u32; ROOTS] = [0; ROOTS];
     let mut j: usize = 0;
-    while j < 92 {
+    while j < ROOTS {
         out[j] = part(letter, side, m, roots[j]);
         j += 1;
     }
@@ -62,13 +63,13 @@ pub fn halves(letter: &[u32], side: &[u32], roots: &[u32; 92], m: u32) -> [u32; 
 }
 
 // The numbers of roots that are terminals.
-pub fn leaf_numbers(low: &[u32], roots: &[u32; 92]) -> [u32; 92]
+pub fn leaf_numbers(low: &[u32], roots: &[u32; ROOTS]) -> [u32; ROOTS]
     requires { ⌜ Entries (now low) (now roots) ⌝ }
     ensures { λ r. ⌜ NumbersOf (now (low .entry)) (now (roots .entry)) r ⌝ }
 {
-    let mut out: [u32; 92] = [0; 92];
+    let mut out: [u32; ROOTS] = [0; ROOTS];
     let mut j: usize = 0;
-    while j < 92 {
+    while j < ROOTS {
         out[j] = entry_of(low, roots[j]);
         j += 1;
     }

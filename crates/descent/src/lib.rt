@@ -12,9 +12,7 @@ pub mod piece;
 pub mod quiet;
 pub mod settle;
 
-// The places of the roots: values of the nodes by number, kept transistors, whether the group is touched, the pending change.
-pub const KEPT: u32 = 26;
+// The place of the first kept transistor, and the number of all places, in the width of roots.
+const KEPT: u32 = net::roots::KEPT as u32;
 
-pub const TOUCHED: usize = 90;
-
-pub const PENDING: usize = 91;
+const PLACES: u32 = net::roots::ROOTS as u32;

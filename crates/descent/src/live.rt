@@ -1,10 +1,12 @@
 // The roots that are not entry 0, by a list of their places: what is left of them, their least letter, their parts, their numbers.
+use crate::PLACES;
 use crate::letters::entry_of;
 use crate::letters::least;
 use crate::letters::part;
 use crate::mask::matters;
 use crate::piece::piece;
 use functions::numbers::TERMINAL;
+use net::roots::ROOTS;
 ghost use mathlib.Core.Path.{_≡_};
 ghost use mathlib.Core.Bool.{cond};
 ghost use Prim.Native.Nat.{ℕ, _+_, _<_};
@@ -12,18 +14,19 @@ ghost use lib.ListN.{length, getD, set};
 ghost use lib.Dec.{eqb};
 ghost use Rattle.diagram.specs.Table.{terminalLetter};
 ghost use Rattle.net.specs.Net.{netCircuit};
-ghost use Rattle.walk.specs.Ready.{Net};
+ghost use Rattle.net.specs.Roots.{rootsLength};
+ghost use Rattle.plain.specs.Ready.{Net};
 ghost use Rattle.descent.specs.Piece.{matters as mattersOf, Selected, Narrowed};
 ghost use Rattle.descent.specs.Live.{Live};
 ghost use Rattle.descent.specs.Descend.{Inner, Entries, Least, HalfOf, NumbersOf};
 
 // All places.
-pub fn all_places() -> [u32; 92]
-    ensures { λ r. ⌜ (length r ≡ 92) × ((i : ℕ) → i < 92 → getD r i 0 ≡ i) ⌝ }
+pub fn all_places() -> [u32; ROOTS]
+    ensures { λ r. ⌜ (length r ≡ rootsLength) × ((i : ℕ) → i < rootsLength → getD r i 0 ≡ i) ⌝ }
 {
-    let mut out: [u32; 92] = [0; 92];
+    let mut out: [u32; ROOTS] = [0; ROOTS];
     let mut i: u32 = 0;
-    while i < 92 {
+    while i < PLACES {
         let at = i as usize;
         out[at] = i;
         i += 1;
@@ -46,8 +49,8 @@ fn kept_root(net: &[u32], marks: &[u32; 26], j: u32, root: u32) -> u32
 }
 
 // Puts place j behind the places so far, unless its root is entry 0.
-fn note_place(list: &mut [u32; 92], count: u32, j: u32, root: u32) -> u32
-    requires { ⌜ count < 92 ⌝ }
+fn note_place(list: &mut [u32; ROOTS], count: u32, j: u32, root: u32) -> u32
+    requires { ⌜ count < rootsLength ⌝ }
     ensures { λ r. ⌜ r ≡ cond (eqb root 0) count (count + 1) ⌝ }
     ensures { λ r. ⌜ now (list .exit) ≡ cond (eqb root 0) (now (list .entry)) (set (now (list .entry)) count j) ⌝ }
 {
@@ -62,15 +65,15 @@ fn note_place(list: &mut [u32; 92], count: u32, j: u32, root: u32) -> u32
 // The roots that matter to a piece, and the list of their places. Gives their count.
 fn keep(
     net: &[u32],
-    roots: &[u32; 92],
+    roots: &[u32; ROOTS],
     marks: &[u32; 26],
-    live: &[u32; 92],
+    live: &[u32; ROOTS],
     count: u32,
-    out: &mut [u32; 92],
-    list: &mut [u32; 92],
+    out: &mut [u32; ROOTS],
+    list: &mut [u32; ROOTS],
 ) -> u32
     requires { ⌜ Net (now net) ⌝ }
-    requires { ⌜ Live (now roots) (now live) count × Live (now out) (now live) count × (length (now list) ≡ 92) ⌝ }
+    requires { ⌜ Live (now roots) (now live) count × Live (now out) (now live) count × (length (now list) ≡ rootsLength) ⌝ }
     ensures { λ r. ⌜ Selected (now (net .entry)) (now (roots .entry)) (now (marks .entry)) (now (out .exit)) ⌝ }
     ensures { λ r. ⌜ Live (now (out .exit)) (now (list .exit)) r ⌝ }
 {
@@ -92,14 +95,14 @@ fn keep(
 pub fn narrow(
     net: &[u32],
     n: u32,
-    roots: &[u32; 92],
-    live: &[u32; 92],
+    roots: &[u32; ROOTS],
+    live: &[u32; ROOTS],
     count: u32,
-    out: &mut [u32; 92],
-    list: &mut [u32; 92],
+    out: &mut [u32; ROOTS],
+    list: &mut [u32; ROOTS],
 ) -> u32
     requires { ⌜ Inner (now net) n ⌝ }
-    requires { ⌜ Live (now roots) (now live) count × Live (now out) (now live) count × (length (now list) ≡ 92) ⌝ }
+    requires { ⌜ Live (now roots) (now live) count × Live (now out) (now live) count × (length (now list) ≡ rootsLength) ⌝ }
     ensures { λ r. ⌜ Narrowed (netCircuit (now (net .entry))) n (now (roots .entry)) (now (out .exit)) ⌝ }
     ensures { λ r. ⌜ Live (now (out .exit)) (now (list .exit)) r ⌝ }
 {
@@ -108,7 +111,7 @@ pub fn narrow(
 }
 
 // The least letter of the roots; a terminal's where all are terminals.
-pub fn least_live(letter: &[u32], roots: &[u32; 92], live: &[u32; 92], count: u32) -> u32
+pub fn least_live(letter: &[u32], roots: &[u32; ROOTS], live: &[u32; ROOTS], count: u32) -> u32
     requires { ⌜ Entries (now letter) (now roots) × (getD (now letter) 0 0 ≡ terminalLetter) ⌝ }
     requires { ⌜ Live (now roots) (now live) count ⌝ }
     ensures { λ r. ⌜ Least (now (letter .entry)) (now (roots .entry)) r ⌝ }
@@ -128,11 +131,11 @@ pub fn least_live(letter: &[u32], roots: &[u32; 92], live: &[u32; 92], count: u3
 pub fn halve(
     letter: &[u32],
     side: &[u32],
-    roots: &[u32; 92],
-    live: &[u32; 92],
+    roots: &[u32; ROOTS],
+    live: &[u32; ROOTS],
     count: u32,
     m: u32,
-    out: &mut [u32; 92],
+    out: &mut [u32; ROOTS],
 )
     requires { ⌜ Entries (now letter) (now roots) × (length (now side) ≡ length (now letter)) × (getD (now letter) 0 0 ≡ m → ⊥) ⌝ }
     requires { ⌜ Live (now roots) (now live) count × Live (now out) (now live) count ⌝ }
@@ -148,12 +151,17 @@ pub fn halve(
 }
 
 // The numbers of roots that are terminals.
-pub fn live_numbers(low: &[u32], roots: &[u32; 92], live: &[u32; 92], count: u32) -> [u32; 92]
+pub fn live_numbers(
+    low: &[u32],
+    roots: &[u32; ROOTS],
+    live: &[u32; ROOTS],
+    count: u32,
+) -> [u32; ROOTS]
     requires { ⌜ Entries (now low) (now roots) × (getD (now low) 0 0 ≡ 0) ⌝ }
     requires { ⌜ Live (now roots) (now live) count ⌝ }
     ensures { λ r. ⌜ NumbersOf (now (low .entry)) (now (roots .entry)) r ⌝ }
 {
-    let mut out: [u32; 92] = [0; 92];
+    let mut out: [u32; ROOTS] = [0; ROOTS];
     let mut i: u32 = 0;
     while i < count {
         let k = i as usize;

@@ -4,16 +4,17 @@ use crate::piece::INSIDE;
 use net::FIRST;
 use net::SECOND;
 use net::TRANSISTORS;
-use walk::reads::read;
+use net::roots;
+use plain::reads::read;
 ghost use mathlib.Core.Path.{_≡_};
 ghost use Prim.Native.Nat.{_<_};
-ghost use Rattle.walk.specs.Ready.{Net};
+ghost use Rattle.plain.specs.Ready.{Net};
 ghost use Rattle.descent.specs.Piece.{isTouching, matters as mattersOf};
 
 // The first node that is no rail, and the end of the kept transistors.
 const NODE: u32 = 2;
 
-const LEAF: u32 = 90;
+const LEAF: u32 = roots::LEAF as u32;
 
 // Whether transistor i touches the piece.
 fn touching(net: &[u32], marks: &[u32; 26], i: u32) -> bool

@@ -3,9 +3,13 @@ ghost use mathlib.Core.Path.{_≡_};
 ghost use Prim.Native.Nat.{_<_};
 ghost use lib.ListN.{length};
 ghost use Rattle.descent.specs.Live.{Places};
-ghost use Rattle.descent.specs.Memo.{Looked, Remembered};
+ghost use Rattle.descent.specs.Memo.{memoLength, Looked, Remembered};
+ghost use Rattle.net.specs.Roots.{rootsLength};
+use net::roots::ROOTS;
 
 const SLOTS: usize = 64;
+
+pub const MEMO: usize = SLOTS * (ROOTS + 1);
 
 fn wide(x: u32) -> usize
     ensures { λ r. ⌜ r ≡ x ⌝ }
@@ -22,7 +26,7 @@ fn mix(h: u64, place: u32, root: u32) -> u64
 }
 
 // A slot for the roots at the listed places.
-pub fn bucket(roots: &[u32; 92], live: &[u32; 92], count: u32) -> usize
+pub fn bucket(roots: &[u32; ROOTS], live: &[u32; ROOTS], count: u32) -> usize
     requires { ⌜ Places (now live) count ⌝ }
     ensures { λ r. ⌜ r < 64 ⌝ }
 {
@@ -39,18 +43,18 @@ pub fn bucket(roots: &[u32; 92], live: &[u32; 92], count: u32) -> usize
 }
 
 // The word of a slot whose roots are these, or 0.
-pub fn look(memo: &[u32; 5952], slot: usize, roots: &[u32; 92]) -> u32
+pub fn look(memo: &[u32; MEMO], slot: usize, roots: &[u32; ROOTS]) -> u32
     requires { ⌜ slot < 64 ⌝ }
-    requires { ⌜ (length (now memo) ≡ 5952) × (length (now roots) ≡ 92) ⌝ }
+    requires { ⌜ (length (now memo) ≡ memoLength) × (length (now roots) ≡ rootsLength) ⌝ }
     ensures { λ r. ⌜ Looked (now (memo .entry)) slot (now (roots .entry)) r ⌝ }
 {
     let word = memo[slot];
     if word == 0 {
         return 0;
     }
-    let from = SLOTS + 92 * slot;
+    let from = SLOTS + ROOTS * slot;
     let mut j: usize = 0;
-    while j < 92 {
+    while j < ROOTS {
         if memo[from + j] != roots[j] {
             return 0;
         }
@@ -60,14 +64,14 @@ pub fn look(memo: &[u32; 5952], slot: usize, roots: &[u32; 92]) -> u32
 }
 
 // Gives a slot these roots and their entry.
-pub fn keep(memo: &mut [u32; 5952], slot: usize, roots: &[u32; 92], e: u32)
+pub fn keep(memo: &mut [u32; MEMO], slot: usize, roots: &[u32; ROOTS], e: u32)
     requires { ⌜ (slot < 64) × (e < 4294967295) ⌝ }
-    requires { ⌜ (length (now memo) ≡ 5952) × (length (now roots) ≡ 92) ⌝ }
+    requires { ⌜ (length (now memo) ≡ memoLength) × (length (now roots) ≡ rootsLength) ⌝ }
     ensures { λ r. ⌜ Remembered (now (memo .entry)) slot (now (roots .entry)) e (now (memo .exit)) ⌝ }
 {
-    let from = SLOTS + 92 * slot;
+    let from = SLOTS + ROOTS * slot;
     let mut i: usize = 0;
-    while i < 92 {
+    while i < ROOTS {
         memo[from + i] = roots[i];
         i += 1;
     }

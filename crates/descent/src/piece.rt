@@ -1,9 +1,10 @@
 // The piece of a node: a search over transistors that are not known to be off, each node visited once.
 use crate::KEPT;
-use walk::reads::arm_at;
-use walk::reads::degree_of;
-use walk::reads::far_end;
-use walk::reads::is_driven;
+use net::roots::ROOTS;
+use plain::reads::arm_at;
+use plain::reads::degree_of;
+use plain::reads::far_end;
+use plain::reads::is_driven;
 ghost use mathlib.Core.Path.{_≡_};
 ghost use mathlib.Core.Bool.{true, false, cond};
 ghost use Prim.Native.Nat.{ℕ, _+_, _<_};
@@ -11,7 +12,7 @@ ghost use lib.ListN.{length, getD, set};
 ghost use lib.Dec.{eqb};
 ghost use Rattle.rules.specs.State.{isDriven};
 ghost use Rattle.net.specs.Net.{nodesPlace, transistorsPlace, netCircuit};
-ghost use Rattle.walk.specs.Ready.{Net};
+ghost use Rattle.plain.specs.Ready.{Net};
 ghost use Rattle.descent.specs.Piece.{isIn, Beside, Crossed, AllCrossed, Found, Searched, Piece};
 ghost use Rattle.descent.specs.Descend.{Inner};
 
@@ -41,7 +42,7 @@ fn note(marks: &mut [u32; 26], found: &mut [u32; 26], count: u32, y: u32) -> u32
 // Crosses transistor i from node x: its far end is found, or marked where it is driven. Gives the count of found nodes.
 fn cross(
     net: &[u32],
-    roots: &[u32; 92],
+    roots: &[u32; ROOTS],
     marks: &mut [u32; 26],
     found: &mut [u32; 26],
     count: u32,
@@ -70,7 +71,7 @@ fn cross(
 // Crosses all arms of node x.
 fn spread(
     net: &[u32],
-    roots: &[u32; 92],
+    roots: &[u32; ROOTS],
     marks: &mut [u32; 26],
     found: &mut [u32; 26],
     count: u32,
@@ -94,7 +95,7 @@ fn spread(
 }
 
 // The marks of node n's piece and of the driven ends beside it.
-pub fn piece(net: &[u32], roots: &[u32; 92], n: u32) -> [u32; 26]
+pub fn piece(net: &[u32], roots: &[u32; ROOTS], n: u32) -> [u32; 26]
     requires { ⌜ Inner (now net) n ⌝ }
     ensures { λ r. ⌜ Piece (now (net .entry)) (now (roots .entry)) n r ⌝ }
 {

@@ -1,11 +1,12 @@
 // The next change where no pattern is touched: the pending change with T taken out.
-use crate::settle::pending_after;
 use functions::numbers::TERMINAL;
 use functions::step::join;
+use plain::settle::pending_after;
 use table::Put;
+use table::stopped;
 ghost use Rattle.diagram.specs.Store.{store};
-ghost use Rattle.diagram.specs.Call.{tableOf};
-ghost use Rattle.table.specs.Holds.{columns, Outcome};
+ghost use Rattle.diagram.specs.Held.{held};
+ghost use Rattle.table.specs.Holds.{Outcome};
 ghost use Rattle.functions.specs.Open.{Legible, Open, Operand};
 ghost use Rattle.descent.specs.Settle.{pendingBy};
 
@@ -25,9 +26,9 @@ pub fn quiet(
     e: u32,
     left: u32,
 ) -> Put
-    requires { ⌜ Legible k (now wletter) (now wlow) (now whigh) wused × Operand k (tableOf (columns (now wletter) (now wlow) (now whigh)) wused) wused left e ⌝ }
+    requires { ⌜ Legible k (now wletter) (now wlow) (now whigh) wused × Operand k (held (now wletter) (now wlow) (now whigh) wused) wused left e ⌝ }
     requires { ⌜ Open k (now letter) (now low) (now high) (now index) used ⌝ }
-    ensures { λ r. ⌜ Outcome (tableOf (columns (now (letter .entry)) (now (low .entry)) (now (high .entry))) used) (store k 0 (pendingBy time k (tableOf (columns (now (wletter .entry)) (now (wlow .entry)) (now (whigh .entry))) wused) e) (tableOf (columns (now (letter .entry)) (now (low .entry)) (now (high .entry))) used)) (now (letter .exit)) (now (low .exit)) (now (high .exit)) (now (index .exit)) r ⌝ }
+    ensures { λ r. ⌜ Outcome (held (now (letter .entry)) (now (low .entry)) (now (high .entry)) used) (store k 0 (pendingBy time k (held (now (wletter .entry)) (now (wlow .entry)) (now (whigh .entry)) wused) e) (held (now (letter .entry)) (now (low .entry)) (now (high .entry)) used)) (now (letter .exit)) (now (low .exit)) (now (high .exit)) (now (index .exit)) r ⌝ }
 {
     let i = e as usize;
     let m = wletter[i];
@@ -52,7 +53,8 @@ pub fn quiet(
         a,
         left - 1,
     );
-    if p.full {
+    let why = p.stop;
+    if stopped(why) {
         return p;
     }
     let q = quiet(
@@ -70,7 +72,8 @@ pub fn quiet(
         b,
         left - 1,
     );
-    if q.full {
+    let why = q.stop;
+    if stopped(why) {
         return q;
     }
     join(letter, low, high, index, q.used, m, p.entry, q.entry)

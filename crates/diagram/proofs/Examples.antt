@@ -9,7 +9,8 @@ use Rattle.diagram.specs.Table.{never, branch, terminal, numberFrom, num
 use Rattle.diagram.specs.Sound.{sound, entryLegal, distinct, fixedTerminals}
 use Rattle.diagram.specs.Store.{Stored, stored, find, add, join, both, store, fresh}
 use Rattle.diagram.specs.Operation.{sum, count}
-use Rattle.diagram.specs.Call.{entries, columnsOf, allBlank, columnsSound}
+use Rattle.diagram.specs.Call.{columnsOf, columnsSound}
+use Rattle.diagram.specs.Held.{entries, allBlank, heldSound}
 
 -- letter 0 and letter 1 in a fresh table of two letters
 letters : Stored
@@ -55,7 +56,7 @@ sum-stays = refl
 
 -- an entry past the used count is not blank
 past-unsound : columnsSound 2 (columnsOf 5 (fresh ++ (branch 0 0 1 ∷ []))) 3 ≡ false
-unfolding columnsSound columnsOf entries allBlank sound entryLegal distinct fixedTerminals below
+unfolding heldSound columnsOf entries allBlank sound entryLegal distinct fixedTerminals below
 past-unsound = refl
 
 -- letter 0 is bit 0 of a pattern

@@ -4,6 +4,7 @@ pub mod Add
 pub mod Number
 pub mod Store
 pub mod Canonical
+pub mod Held
 pub mod Columns
 pub mod Pattern
 pub mod Answer

@@ -1,29 +1,26 @@
 -- The calls on a lent table: three columns and a used count; refusals 8, 7, 9, 6 in that order.
 use Prim.Native.Nat.{ℕ}
-use mathlib.Core.List.{List, [], _∷_, map}
-use mathlib.Core.Bool.{Bool, true, _&&_}
-use lib.ListN.{length, take, drop}
+use mathlib.Core.List.{List}
+use mathlib.Core.Bool.{Bool, _&&_}
+use lib.ListN.{length}
 use lib.Dec.{leb, ltb, eqb}
 use Rattle.refusal.specs.declared.Refusal.the-variants.{Buffer, Unsound, Question, Full}
 use Rattle.refusal.specs.Answer.{Answer, refused, answered, check}
-use Rattle.lists.specs.Padded.{padded}
 use Rattle.diagram.specs.declared.Operation.{Operation}
 use Rattle.diagram.specs.Pattern.{mostLetters, patterns}
-use Rattle.diagram.specs.Table.{Entry, Table, blank, same, numberAt}
-use Rattle.diagram.specs.Sound.{sound}
+use Rattle.diagram.specs.Table.{Table, numberAt}
 use Rattle.diagram.specs.Store.{Stored, stored, store, fresh}
 use Rattle.diagram.specs.Operation.{applied, chosen, letterFixed, twoValued, count}
+use Rattle.diagram.specs.Held.{leastEntries, mostEntries, entries, held, letterOf, lowOf, highOf, columnBy, heldSound}
 
+-- the columns that are lent
 pub record Columns : Type 0 where
   pub letter : List ℕ
   pub low : List ℕ
   pub high : List ℕ
 
-abbrev pub leastEntries : ℕ
-leastEntries = 3
-
-abbrev pub mostEntries : ℕ
-mostEntries = 65536
+abbrev pub columns : List ℕ → List ℕ → List ℕ → Columns
+columns l w h = record { letter = l; low = w; high = h }
 
 -- 8: the columns are equally long, and their length is in its range
 abbrev pub lengthsLegal : Columns → Bool
@@ -33,39 +30,25 @@ lengthsLegal c =
     && eqb (length (c .low)) (length (c .letter))
     && eqb (length (c .high)) (length (c .letter))
 
--- the entries of three columns
-unfoldable pub entries : List ℕ → List ℕ → List ℕ → Table
-entries [] ws hs = []
-entries (l ∷ ls) [] hs = []
-entries (l ∷ ls) (w ∷ ws) [] = []
-entries (l ∷ ls) (w ∷ ws) (h ∷ hs) = record { letter = l; low = w; high = h } ∷ entries ls ws hs
-
+-- the entries of the columns
 abbrev pub rows : Columns → Table
 rows c = entries (c .letter) (c .low) (c .high)
 
 -- the table that the columns hold
 abbrev pub tableOf : Columns → ℕ → Table
-tableOf c used = take used (rows c)
+tableOf c used = held (c .letter) (c .low) (c .high) used
 
 -- the columns of a given length that hold a table
 unfoldable pub columnsOf : ℕ → Table → Columns
 columnsOf size t = record {
-  letter = padded size 0 (map (λ (x : Entry). x .letter) t);
-  low = padded size 0 (map (λ (x : Entry). x .low) t);
-  high = padded size 0 (map (λ (x : Entry). x .high) t);
+  letter = columnBy letterOf size t;
+  low = columnBy lowOf size t;
+  high = columnBy highOf size t;
 }
 
-unfoldable pub allBlank : Table → Bool
-allBlank [] = true
-allBlank (x ∷ xs) = same x blank && allBlank xs
-
 -- 7: the used count is in its range, the table is sound for K, and past the used count all is zero
-unfoldable pub columnsSound : ℕ → Columns → ℕ → Bool
-columnsSound letters c used =
-    leb leastEntries used
-    && leb used (length (c .letter))
-    && sound letters (tableOf c used)
-    && allBlank (drop used (rows c))
+abbrev pub columnsSound : ℕ → Columns → ℕ → Bool
+columnsSound letters c used = heldSound letters (c .letter) (c .low) (c .high) used
 
 -- store a function, 6 where the entries used and those to be added exceed the columns
 abbrev pub storeIn : ℕ → Columns → (ℕ → ℕ) → Table → Answer Stored

@@ -3,4 +3,5 @@ pub mod Table
 pub mod Sound
 pub mod Store
 pub mod Operation
+pub mod Held
 pub mod Call

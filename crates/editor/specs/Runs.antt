@@ -7,6 +7,7 @@ use lib.ListN.{length, getD, take, drop}
 use lib.Dec.{eqb}
 use Rattle.refusal.specs.declared.Refusal.the-variants.{Buffer}
 use Rattle.refusal.specs.Answer.{Answer, refused, answered, check, answerNumber}
+use Rattle.format.specs.Circuit.{Circuit}
 use Rattle.format.specs.Legal.{mostNodes}
 use Rattle.format.specs.File.{readCell}
 use Rattle.diagram.specs.Call.{Columns}
@@ -17,10 +18,11 @@ use Rattle.advance.specs.declared.Task.{Task}
 use Rattle.advance.specs.Task.{runIn, taskCall}
 use Rattle.advance.specs.Went.{runAfter, tableAfter, workingAfter}
 
--- the places: the time, the used count, at n the value's entry of node n (2 to 25), at 24 + n the entry of its next change
-abbrev pub recordLength : ℕ
-recordLength = 50
+-- how long the record of a run is, by what reading the cell answers: 50 for every cell
+abbrev pub recordLength : Answer Circuit → ℕ
+recordLength cell = 50
 
+-- the places: the time, the used count, at n the value's entry of node n (2 to 25), at 24 + n the entry of its next change
 abbrev pub timePlace : ℕ
 timePlace = 0
 
@@ -48,7 +50,7 @@ recordColumn r = r .time ∷ r .used ∷ r .values ++ r .changes
 -- start, step and run up to a picosecond: 8 where the record has another length, then the answer of the task on the file's cell
 unfoldable pub taskAnswer : List ℕ → Task → Columns → List ℕ → Columns → Answer Moment
 taskAnswer file task table column working =
-    check (eqb (length column) recordLength) Buffer (taskCall (readCell file) task table (recordIn column) working)
+    check (eqb (length column) (recordLength (readCell file))) Buffer (taskCall (readCell file) task table (recordIn column) working)
 
 -- a refusal leaves the column as it was; after an answer its places past the node records are zero
 abbrev pub columnAfter : List ℕ → Answer Moment → List ℕ
@@ -72,7 +74,7 @@ pub record AdvanceDone (table table′ : Columns) (r r′ : Run) (working workin
 -- the run question: 8 where the record or the answer has another length
 unfoldable pub askAnswer : List ℕ → Columns → List ℕ → ℕ → ℕ → List ℕ → Answer Wire
 askAnswer file table column n p told =
-    check (eqb (length column) recordLength && eqb (length told) 2) Buffer (askCall (readCell file) table (runIn (readCell file) (recordIn column)) n p)
+    check (eqb (length column) (recordLength (readCell file)) && eqb (length told) 2) Buffer (askCall (readCell file) table (runIn (readCell file) (recordIn column)) n p)
 
 -- value and next change; a refusal leaves the numbers as they were
 abbrev pub toldAfter : List ℕ → Answer Wire → List ℕ

@@ -1,7 +1,7 @@
 // One step on a run record that the caller holds as a struct: the record is copied out, stepped by value, and stored back.
 ghost use mathlib.Core.Path.{_≡_};
 ghost use Rattle.format.specs.File.{readCell};
-ghost use Rattle.table.specs.Holds.{columns};
+ghost use Rattle.diagram.specs.Call.{columns};
 ghost use Rattle.advance.specs.declared.Task.the-variants.{Step};
 ghost use Rattle.advance.specs.Task.{taskCall};
 ghost use Rattle.editor.specs.Runs.{AdvanceDone};

@@ -4,7 +4,7 @@ ghost use mathlib.Core.List.{_++_};
 ghost use Prim.Native.Nat.{_+_, _≤_};
 ghost use lib.ListN.{length, take, drop};
 ghost use Rattle.refusal.specs.Number.{replyNumber};
-ghost use Rattle.table.specs.Holds.{columns};
+ghost use Rattle.diagram.specs.Call.{columns};
 ghost use Rattle.advance.specs.declared.Task.the-variants.{Start, Step, Until};
 ghost use Rattle.editor.specs.Runs.{recordIn, recordColumn, taskAnswer, TaskDone, askAnswer, AskDone};
 ghost use Rattle.editor.specs.Replied.{columnAfterReply, toldAfterReply};

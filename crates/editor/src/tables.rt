@@ -2,16 +2,14 @@
 ghost use mathlib.Core.Path.{_≡_};
 ghost use Rattle.refusal.specs.Number.{replyNumber};
 ghost use Rattle.diagram.specs.declared.Operation.the-variants.{Smaller, Sum};
-ghost use Rattle.diagram.specs.Call.{freshCall, applyCall, chooseCall, fixCall, numberCall, countCall};
-ghost use Rattle.table.specs.Holds.{columns};
+ghost use Rattle.diagram.specs.Call.{columns, freshCall, applyCall, chooseCall, fixCall, numberCall, countCall};
 ghost use Rattle.editor.specs.Functions.{FreshCall, StoredCall, ToldCall, afterReply};
+use calls::Ask;
+use calls::Make;
 use calls::Stored;
 use calls::Told;
-use calls::apply::apply_call;
-use calls::choose::choose_call;
-use calls::count::count_call;
-use calls::fix::fix_call;
-use calls::number::number_call;
+use calls::store::store;
+use calls::tell::tell;
 use diagram::Operation;
 use refusal::Reply;
 
@@ -67,7 +65,8 @@ pub extern "C" fn sts_choose(
 ) -> u32
     ensures { λ r. ⌜ StoredCall (columns (now (letter .entry)) (now (low .entry)) (now (high .entry))) (columns (now (letter .exit)) (now (low .exit)) (now (high .exit))) (now (used .entry)) (now (used .exit)) (now (entry .entry)) (now (entry .exit)) (chooseCall k (columns (now (letter .entry)) (now (low .entry)) (now (high .entry))) (now (used .entry)) selector first second) r ⌝ }
 {
-    let s = choose_call(k, letter, low, high, *used, selector, first, second);
+    let what = Make::Choose(selector, first, second);
+    let s = store(what, k, letter, low, high, *used);
     give_stored(s, used, entry)
 }
 
@@ -85,16 +84,8 @@ pub extern "C" fn sts_smaller(
 ) -> u32
     ensures { λ r. ⌜ StoredCall (columns (now (letter .entry)) (now (low .entry)) (now (high .entry))) (columns (now (letter .exit)) (now (low .exit)) (now (high .exit))) (now (used .entry)) (now (used .exit)) (now (entry .entry)) (now (entry .exit)) (applyCall Smaller k (columns (now (letter .entry)) (now (low .entry)) (now (high .entry))) (now (used .entry)) first second) r ⌝ }
 {
-    let s = apply_call(
-        Operation::Smaller,
-        k,
-        letter,
-        low,
-        high,
-        *used,
-        first,
-        second,
-    );
+    let what = Make::Apply(Operation::Smaller, first, second);
+    let s = store(what, k, letter, low, high, *used);
     give_stored(s, used, entry)
 }
 
@@ -112,7 +103,8 @@ pub extern "C" fn sts_sum(
 ) -> u32
     ensures { λ r. ⌜ StoredCall (columns (now (letter .entry)) (now (low .entry)) (now (high .entry))) (columns (now (letter .exit)) (now (low .exit)) (now (high .exit))) (now (used .entry)) (now (used .exit)) (now (entry .entry)) (now (entry .exit)) (applyCall Sum k (columns (now (letter .entry)) (now (low .entry)) (now (high .entry))) (now (used .entry)) first second) r ⌝ }
 {
-    let s = apply_call(Operation::Sum, k, letter, low, high, *used, first, second);
+    let what = Make::Apply(Operation::Sum, first, second);
+    let s = store(what, k, letter, low, high, *used);
     give_stored(s, used, entry)
 }
 
@@ -131,7 +123,8 @@ pub extern "C" fn sts_fix(
 ) -> u32
     ensures { λ r. ⌜ StoredCall (columns (now (letter .entry)) (now (low .entry)) (now (high .entry))) (columns (now (letter .exit)) (now (low .exit)) (now (high .exit))) (now (used .entry)) (now (used .exit)) (now (entry .entry)) (now (entry .exit)) (fixCall k (columns (now (letter .entry)) (now (low .entry)) (now (high .entry))) (now (used .entry)) function «letter_number» bit) r ⌝ }
 {
-    let s = fix_call(k, letter, low, high, *used, function, letter_number, bit);
+    let what = Make::Fix(function, letter_number, bit);
+    let s = store(what, k, letter, low, high, *used);
     give_stored(s, used, entry)
 }
 
@@ -149,7 +142,7 @@ pub extern "C" fn sts_number(
 ) -> u32
     ensures { λ r. ⌜ ToldCall (now (number .entry)) (now (number .exit)) (numberCall k (columns (now (letter .entry)) (now (low .entry)) (now (high .entry))) used function pattern) r ⌝ }
 {
-    let t = number_call(k, letter, low, high, used, function, pattern);
+    let t = tell(Ask::Number(function, pattern), k, letter, low, high, used);
     give_number(t, number)
 }
 
@@ -166,6 +159,6 @@ pub extern "C" fn sts_count(
 ) -> u32
     ensures { λ r. ⌜ ToldCall (now (count .entry)) (now (count .exit)) (countCall k (columns (now (letter .entry)) (now (low .entry)) (now (high .entry))) used function) r ⌝ }
 {
-    let t = count_call(k, letter, low, high, used, function);
+    let t = tell(Ask::Count(function), k, letter, low, high, used);
     give_number(t, count)
 }

@@ -13,14 +13,15 @@ use Rattle.format.specs.Circuit.{Circuit}
 use Rattle.diagram.specs.Pattern.{patterns}
 use Rattle.diagram.specs.Table.{Table, terminalLetter, branch, entryAt, numberAt}
 use Rattle.diagram.specs.Store.{add, store}
-use Rattle.diagram.specs.Call.{tableOf}
+use Rattle.diagram.specs.Held.{held}
 use Rattle.diagram.proofs.Sound.{Sound}
 use Rattle.diagram.proofs.Add.{Extends}
 use Rattle.diagram.proofs.Number.{number-zeroth, number-first, number-terminal, numberAt-extends}
 use Rattle.diagram.proofs.Store.{store-number}
 use Rattle.diagram.proofs.Shannon.{numbers-at}
+use Rattle.net.specs.Roots.{rootsLength}
 use Rattle.table.specs.declared.Put.{Put}
-use Rattle.table.specs.Holds.{columns, Outcome}
+use Rattle.table.specs.Holds.{Outcome}
 use Rattle.functions.specs.Open.{Open}
 use Rattle.functions.proofs.Carry.{legible-sound, letter-at, low-at, branch-letter}
 use Rattle.descent.specs.Settle.{leafAt}
@@ -59,9 +60,9 @@ evaluable-more le e = record {
   bits = e .bits;
 }
 
-module _ {k : ℕ} {l w h ix : List ℕ} {used left : ℕ} {es : List ℕ} (o : Open k l w h ix used) (e : Evaluable k (tableOf (columns l w h) used) used left es) where
+module _ {k : ℕ} {l w h ix : List ℕ} {used left : ℕ} {es : List ℕ} (o : Open k l w h ix used) (e : Evaluable k (held l w h used) used left es) where
   abbrev t : Table
-  t = tableOf (columns l w h) used
+  t = held l w h used
 
   sound : Sound k t
   sound = legible-sound (o .legible)
@@ -74,11 +75,11 @@ module _ {k : ℕ} {l w h ix : List ℕ} {used left : ℕ} {es : List ℕ} (o : 
   evaluable-entries column q = record { long = e .long; within = λ j g. omega (arith, e .operand j g .within, o .legible .fits) }
 
   -- the number of a known entry
-  known : (p j x v : ℕ) → j < 92 → getD es j 0 ≡ x → numberAt k t x p ≡ v → getD (leafAt k t es p) j 0 ≡ v
+  known : (p j x v : ℕ) → j < rootsLength → getD es j 0 ≡ x → numberAt k t x p ≡ v → getD (leafAt k t es p) j 0 ≡ v
   known p j x v g at is = numbers-at k t es p j (omega (arith, e .long)) ∙ ap (λ (i : ℕ). numberAt k t i p) at ∙ is
 
   -- at every pattern their numbers are those of a pattern
-  pub evaluable-numbers : (p : ℕ) → p < patterns k → Numbers (leafAt k (tableOf (columns l w h) used) es p)
+  pub evaluable-numbers : (p : ℕ) → p < patterns k → Numbers (leafAt k (held l w h used) es p)
   evaluable-numbers p g = record {
     long = length-map es (λ (i : ℕ). numberAt k t i p) ∙ e .long;
     ground-before = known p 0 0 0 (omega arith) (e .ground-before) (number-zeroth t p few sound);
@@ -89,11 +90,11 @@ module _ {k : ℕ} {l w h ix : List ℕ} {used left : ℕ} {es : List ℕ} (o : 
   }
 
 -- no letter is left: the entries are terminals
-module _ {k : ℕ} {l w h ix : List ℕ} {used : ℕ} {es : List ℕ} (o : Open k l w h ix used) (e : Evaluable k (tableOf (columns l w h) used) used 0 es) where
+module _ {k : ℕ} {l w h ix : List ℕ} {used : ℕ} {es : List ℕ} (o : Open k l w h ix used) (e : Evaluable k (held l w h used) used 0 es) where
   abbrev t0 : Table
-  t0 = tableOf (columns l w h) used
+  t0 = held l w h used
 
-  all-terminals : (j : ℕ) → j < 92 → entryAt t0 (getD es j 0) .letter ≡ terminalLetter
+  all-terminals : (j : ℕ) → j < rootsLength → entryAt t0 (getD es j 0) .letter ≡ terminalLetter
   all-terminals j g =
       let i : ℕ = getD es j 0 in
       let in-columns : i < used = e .operand j g .within in
@@ -109,7 +110,7 @@ module _ {k : ℕ} {l w h ix : List ℕ} {used : ℕ} {es : List ℕ} (o : Open 
     same-numbers p =
         ext-getD 0 out (leafAt k t0 es p) (f .long ∙ sym (length-map es (λ (i : ℕ). numberAt k t0 i p) ∙ e .long))
         (λ j g.
-        let small : j < 92 = omega (arith, f .long) in
+        let small : j < rootsLength = omega (arith, f .long) in
         f .is j small
         ∙ sym (numbers-at k t0 es p j (omega (arith, e .long))
         ∙ number-terminal k 0 t0 (getD es j 0) p (omega (arith, o .legible .few)) (all-terminals j small)
@@ -120,6 +121,6 @@ module _ {k : ℕ} {l w h ix : List ℕ} {used : ℕ} {es : List ℕ} (o : Open 
 
     -- and so is what they come to
     pub leaf-stored : (c : Circuit) (time : ℕ) (all : Bool) (n v : ℕ) {l1 w1 h1 ix1 : List ℕ} {r : Put} → v ≡ changeFrom c time all n out
-        → Outcome (tableOf (columns l w h) used) (add (branch terminalLetter v 0) (tableOf (columns l w h) used)) l1 w1 h1 ix1 r
-        → Outcome (tableOf (columns l w h) used) (store k 0 (changeBy c time all n k (tableOf (columns l w h) used) es) (tableOf (columns l w h) used)) l1 w1 h1 ix1 r
+        → Outcome (held l w h used) (add (branch terminalLetter v 0) (held l w h used)) l1 w1 h1 ix1 r
+        → Outcome (held l w h used) (store k 0 (changeBy c time all n k (held l w h used) es) (held l w h used)) l1 w1 h1 ix1 r
     leaf-stored c time all n v q done = rw (store-number k 0 v (changeBy c time all n k t0 es) t0 (λ p _. ap (changeFrom c time all n) (sym (same-numbers p)) ∙ sym q)) done

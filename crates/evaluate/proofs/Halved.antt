@@ -10,15 +10,17 @@ use Rattle.format.specs.Circuit.{Circuit}
 use Rattle.diagram.specs.Pattern.{withLetter}
 use Rattle.diagram.specs.Table.{Entry, Table, terminalLetter, entryAt, partOf}
 use Rattle.diagram.specs.Store.{store}
-use Rattle.diagram.specs.Call.{tableOf}
+use Rattle.diagram.specs.Held.{held}
 use Rattle.diagram.proofs.Sound.{Sound}
 use Rattle.diagram.proofs.Number.{part-self, part-within, part-larger}
 use Rattle.diagram.proofs.Pattern.{with-lt}
 use Rattle.diagram.proofs.Values.{number-part}
 use Rattle.diagram.proofs.Store.{store-ext, store-stored}
 use Rattle.diagram.proofs.Shannon as shannon
+use Rattle.net.specs.Roots.{rootsLength}
 use Rattle.table.specs.declared.Put.{Put}
-use Rattle.table.specs.Holds.{columns, Outcome}
+use Rattle.table.specs.Stop.{stopped}
+use Rattle.table.specs.Holds.{Outcome}
 use Rattle.table.proofs.Outcomes.{holds-table}
 use Rattle.functions.specs.Open.{Open, Operand}
 use Rattle.functions.proofs.Carry.{legible-sound, legible-long, letter-at, low-at, high-at}
@@ -29,10 +31,10 @@ use Rattle.attempt.specs.Change.{changeFrom, changeBy}
 use Rattle.attempt.specs.Entries.{Evaluable}
 use Rattle.evaluate.proofs.Entries.{evaluable-extends}
 
-module _ {k : ℕ} {l w h ix : List ℕ} {used left : ℕ} {es : List ℕ} (o : Open k l w h ix used) (e : Evaluable k (tableOf (columns l w h) used) used left es)
+module _ {k : ℕ} {l w h ix : List ℕ} {used left : ℕ} {es : List ℕ} (o : Open k l w h ix used) (e : Evaluable k (held l w h used) used left es)
     (some : 1 ≤ left) (most : left ≤ k) {m : ℕ} (letter : m ≡ k - left) where
   abbrev t : Table
-  t = tableOf (columns l w h) used
+  t = held l w h used
 
   sound : Sound k t
   sound = legible-sound (o .legible)
@@ -49,10 +51,10 @@ module _ {k : ℕ} {l w h ix : List ℕ} {used left : ℕ} {es : List ℕ} (o : 
   terminal-past : m < terminalLetter
   terminal-past = omega (arith, small, few)
 
-  within : (j : ℕ) → j < 92 → getD es j 0 < length t
+  within : (j : ℕ) → j < rootsLength → getD es j 0 < length t
   within j g = omega (arith, e .operand j g .within, long)
 
-  from-letter : (j : ℕ) → j < 92 → m ≤ entryAt t (getD es j 0) .letter
+  from-letter : (j : ℕ) → j < rootsLength → m ≤ entryAt t (getD es j 0) .letter
   from-letter j g = omega (arith, e .operand j g .from)
 
   -- a terminal is its own part
@@ -60,11 +62,11 @@ module _ {k : ℕ} {l w h ix : List ℕ} {used left : ℕ} {es : List ℕ} (o : 
   terminal-part bit x at = part-self t m x bit (λ q. omega (arith, terminal-past))
 
   module _ (bit : ℕ) (one : bit ≤ 1) {out : List ℕ} (half : out ≡ shannon.parts t m bit es) where
-    half-at : (j : ℕ) → j < 92 → getD out j 0 ≡ partOf t m bit (getD es j 0)
+    half-at : (j : ℕ) → j < rootsLength → getD out j 0 ≡ partOf t m bit (getD es j 0)
     half-at j g = ap (λ (xs : List ℕ). getD xs j 0) half ∙ map-at (partOf t m bit) es 0 0 j (omega (arith, e .long))
 
     -- a rail's entry stays
-    rail-at : (j x : ℕ) → j < 92 → entryAt t x .letter ≡ terminalLetter → getD es j 0 ≡ x → getD out j 0 ≡ x
+    rail-at : (j x : ℕ) → j < rootsLength → entryAt t x .letter ≡ terminalLetter → getD es j 0 ≡ x → getD out j 0 ≡ x
     rail-at j x g leaf at = half-at j g ∙ ap (partOf t m bit) at ∙ terminal-part bit x leaf
 
     -- the halves are as evaluable with one letter less
@@ -85,7 +87,7 @@ module _ {k : ℕ} {l w h ix : List ℕ} {used left : ℕ} {es : List ℕ} (o : 
           ground-after = rail-at 26 0 (omega arith) ground (e .ground-after);
           supply-after = rail-at 27 1 (omega arith) supply (e .supply-after);
           bits = λ j p q g.
-              let place : j < 92 = omega arith in
+              let place : j < rootsLength = omega arith in
               rw (half-at j place, number-part t m bit (getD es j 0) p few sound (within j place) small one (from-letter j place))
               (e .bits j (withLetter m bit p) q (with-lt k m bit p g small one));
         }
@@ -101,7 +103,7 @@ module _ {k : ℕ} {l w h ix : List ℕ} {used left : ℕ} {es : List ℕ} (o : 
       by-roots (partOf t m 1) es out (e .long) (f .long)
       (λ j g. f .is j g ∙ sym (rw (letter-at (o .legible) (getD es j 0) (e .operand j g .within), high-at (o .legible) (getD es j 0) (e .operand j g .within))))
 
-  pub low-evaluable : {out : List ℕ} → HalfOf l w es m out → Evaluable k (tableOf (columns l w h) used) used (left - 1) out
+  pub low-evaluable : {out : List ℕ} → HalfOf l w es m out → Evaluable k (held l w h used) used (left - 1) out
   low-evaluable f = half-evaluable 0 (omega arith) (low-half f)
 
   high-evaluable : {out : List ℕ} → HalfOf l h es m out → Evaluable k t used (left - 1) out
@@ -112,7 +114,7 @@ module _ {k : ℕ} {l w h ix : List ℕ} {used left : ℕ} {es : List ℕ} (o : 
 
   module _ (c : Circuit) (time : ℕ) (all : Bool) (n : ℕ) {a b : List ℕ} (fa : HalfOf l w es m a) (fb : HalfOf l h es m b) where
     -- the halves make the function
-    pub halves-stored : Halves k (tableOf (columns l w h) used) m (changeBy c time all n k (tableOf (columns l w h) used) es) (changeBy c time all n k (tableOf (columns l w h) used) a) (λ u. changeBy c time all n k u b)
+    pub halves-stored : Halves k (held l w h used) m (changeBy c time all n k (held l w h used) es) (changeBy c time all n k (held l w h used) a) (λ u. changeBy c time all n k u b)
     halves-stored = record {
       halved = rw (low-half fa, high-half fb) (shannon.store-roots t few sound m (changeFrom c time all n) es small all-roots);
       stable = λ u v x.
@@ -123,8 +125,8 @@ module _ {k : ℕ} {l w h ix : List ℕ} {used left : ℕ} {es : List ℕ} (o : 
     }
 
     -- the high halves in what the low ones left
-    pub next-evaluable : {l1 w1 h1 ix1 : List ℕ} {p : Put} → Outcome (tableOf (columns l w h) used) (store k 0 (changeBy c time all n k (tableOf (columns l w h) used) a) (tableOf (columns l w h) used)) l1 w1 h1 ix1 p → p .full ≡ false
-        → Evaluable k (tableOf (columns l1 w1 h1) (p .used)) (p .used) (left - 1) b
+    pub next-evaluable : {l1 w1 h1 ix1 : List ℕ} {p : Put} → Outcome (held l w h used) (store k 0 (changeBy c time all n k (held l w h used) a) (held l w h used)) l1 w1 h1 ix1 p → stopped (p .stop) ≡ false
+        → Evaluable k (held l1 w1 h1 (p .used)) (p .used) (left - 1) b
     next-evaluable {l1} {w1} {h1} {ix1} {p} done room =
         let held = done .holds room in
         rw (holds-table held) (evaluable-extends few sound (store-stored k 0 (changeBy c time all n k t a) t few sound (omega arith) .extends) long (sym (held .long)) (high-evaluable fb))

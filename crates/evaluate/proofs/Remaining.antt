@@ -5,8 +5,7 @@ use Prim.Native.Nat.{ℕ, _-_, _<_, _≤_}
 use native.Mathlib.Omega.{arith}
 use lib.ListN.{getD}
 use Rattle.diagram.specs.Table.{terminalLetter}
-use Rattle.diagram.specs.Call.{tableOf}
-use Rattle.table.specs.Holds.{columns}
+use Rattle.diagram.specs.Held.{held}
 use Rattle.functions.specs.Open.{Open}
 use Rattle.functions.proofs.Carry.{letter-at}
 use Rattle.descent.specs.Descend.{Least}
@@ -27,9 +26,9 @@ module _ {k : ℕ} {l es : List ℕ} {m : ℕ} (f : Least l es m) where
         omega (arith, g (at .0) (at .1), at .2);
   }
 
-module _ {k : ℕ} {l w h ix : List ℕ} {used left : ℕ} {es : List ℕ} (o : Open k l w h ix used) (e : Evaluable k (tableOf (columns l w h) used) used left es) {r : ℕ} (f : Left k l es r) where
+module _ {k : ℕ} {l w h ix : List ℕ} {used left : ℕ} {es : List ℕ} (o : Open k l w h ix used) (e : Evaluable k (held l w h used) used left es) {r : ℕ} (f : Left k l es r) where
   -- a node is evaluated with them
-  pub left-evaluable : Evaluable k (tableOf (columns l w h) used) used r es
+  pub left-evaluable : Evaluable k (held l w h used) used r es
   left-evaluable = record {
     long = e .long;
     operand = λ j g.

@@ -2,11 +2,11 @@
 use Prim.Native.Nat.{ℕ, _+_, _<_, _≤_}
 use mathlib.Core.List.{List}
 use lib.ListN.{getD}
-use Rattle.attempt.specs.Change.{numbersLength}
+use Rattle.net.specs.Roots.{rootsLength}
 
 -- all letters of the entries are among the last `left` of the k
 abbrev pub Last : (k : ℕ) (letter entries : List ℕ) (left : ℕ) → Type 0
-Last k letter entries left = (j : ℕ) → j < numbersLength → k ≤ getD letter (getD entries j 0) 0 + left
+Last k letter entries left = (j : ℕ) → j < rootsLength → k ≤ getD letter (getD entries j 0) 0 + left
 
 -- the least such number
 pub record Left (k : ℕ) (letter entries : List ℕ) (r : ℕ) : Type 0 where

@@ -5,16 +5,19 @@ use attempt::attempt;
 use descent::letters::halves;
 use descent::letters::least_letter;
 use functions::step::join;
+use net::roots::ROOTS;
 use table::Put;
+use table::Stop;
+use table::stopped;
 ghost use mathlib.Core.Path.{_≡_};
 ghost use mathlib.Core.Bool.{true, false};
 ghost use Prim.Native.Nat.{_≤_};
 ghost use Rattle.diagram.specs.Store.{store};
-ghost use Rattle.diagram.specs.Call.{tableOf};
+ghost use Rattle.diagram.specs.Held.{held};
 ghost use Rattle.net.specs.Net.{lettersPlace, at as atPlace, netCircuit};
-ghost use Rattle.table.specs.Holds.{columns, Sized, Outcome};
+ghost use Rattle.table.specs.Holds.{Sized, Outcome};
 ghost use Rattle.functions.specs.Open.{Open};
-ghost use Rattle.walk.specs.Ready.{Net};
+ghost use Rattle.plain.specs.Ready.{Net};
 ghost use Rattle.descent.specs.Descend.{Inner, Entries};
 ghost use Rattle.attempt.specs.Change.{changeBy};
 ghost use Rattle.attempt.specs.Entries.{Evaluable};
@@ -24,7 +27,7 @@ ghost use Rattle.evaluate.specs.Left.{Left};
 pub const FEW: u32 = 8;
 
 // The letters from the least one of the entries on.
-fn letters_left(net: &[u32], letter: &[u32], entries: &[u32; 92]) -> u32
+fn letters_left(net: &[u32], letter: &[u32], entries: &[u32; ROOTS]) -> u32
     requires { ⌜ Net (now net) × Entries (now letter) (now entries) ⌝ }
     ensures { λ r. ⌜ Left (atPlace (now (net .entry)) lettersPlace) (now (letter .entry)) (now (entries .entry)) r ⌝ }
 {
@@ -51,17 +54,17 @@ fn tried(
     time: u32,
     all: bool,
     n: u32,
-    entries: &[u32; 92],
+    entries: &[u32; ROOTS],
     left: u32,
 ) -> Tried
-    requires { ⌜ Inner (now net) n × Open (atPlace (now net) lettersPlace) (now letter) (now low) (now high) (now index) used × Evaluable (atPlace (now net) lettersPlace) (tableOf (columns (now letter) (now low) (now high)) used) used (atPlace (now net) lettersPlace) (now entries) × Sized (now wletter) (now wlow) (now whigh) (now windex) ⌝ }
-    ensures { λ r. ⌜ (r .done ≡ true → Outcome (tableOf (columns (now (letter .entry)) (now (low .entry)) (now (high .entry))) used) (store (atPlace (now (net .entry)) lettersPlace) 0 (changeBy (netCircuit (now (net .entry))) time all n (atPlace (now (net .entry)) lettersPlace) (tableOf (columns (now (letter .entry)) (now (low .entry)) (now (high .entry))) used) (now (entries .entry))) (tableOf (columns (now (letter .entry)) (now (low .entry)) (now (high .entry))) used)) (now (letter .exit)) (now (low .exit)) (now (high .exit)) (now (index .exit)) (r .put)) × (r .done ≡ false → (now (letter .exit) ≡ now (letter .entry)) × (now (low .exit) ≡ now (low .entry)) × (now (high .exit) ≡ now (high .entry)) × (now (index .exit) ≡ now (index .entry))) ⌝ }
+    requires { ⌜ Inner (now net) n × Open (atPlace (now net) lettersPlace) (now letter) (now low) (now high) (now index) used × Evaluable (atPlace (now net) lettersPlace) (held (now letter) (now low) (now high) used) used (atPlace (now net) lettersPlace) (now entries) × Sized (now wletter) (now wlow) (now whigh) (now windex) ⌝ }
+    ensures { λ r. ⌜ (r .done ≡ true → Outcome (held (now (letter .entry)) (now (low .entry)) (now (high .entry)) used) (store (atPlace (now (net .entry)) lettersPlace) 0 (changeBy (netCircuit (now (net .entry))) time all n (atPlace (now (net .entry)) lettersPlace) (held (now (letter .entry)) (now (low .entry)) (now (high .entry)) used) (now (entries .entry))) (held (now (letter .entry)) (now (low .entry)) (now (high .entry)) used)) (now (letter .exit)) (now (low .exit)) (now (high .exit)) (now (index .exit)) (r .put)) × (r .done ≡ false → (now (letter .exit) ≡ now (letter .entry)) × (now (low .exit) ≡ now (low .entry)) × (now (high .exit) ≡ now (high .entry)) × (now (index .exit) ≡ now (index .entry))) ⌝ }
 {
     if left < FEW {
         return Tried {
             done: false,
             put: Put {
-                full: false,
+                stop: Stop::Going,
                 entry: 0,
                 used,
             },
@@ -100,11 +103,11 @@ pub fn evaluate(
     time: u32,
     all: bool,
     n: u32,
-    entries: &[u32; 92],
+    entries: &[u32; ROOTS],
     left: u32,
 ) -> Put
-    requires { ⌜ Inner (now net) n × Open (atPlace (now net) lettersPlace) (now letter) (now low) (now high) (now index) used × Evaluable (atPlace (now net) lettersPlace) (tableOf (columns (now letter) (now low) (now high)) used) used left (now entries) × Sized (now wletter) (now wlow) (now whigh) (now windex) × (left ≤ atPlace (now net) lettersPlace) ⌝ }
-    ensures { λ r. ⌜ Outcome (tableOf (columns (now (letter .entry)) (now (low .entry)) (now (high .entry))) used) (store (atPlace (now (net .entry)) lettersPlace) 0 (changeBy (netCircuit (now (net .entry))) time all n (atPlace (now (net .entry)) lettersPlace) (tableOf (columns (now (letter .entry)) (now (low .entry)) (now (high .entry))) used) (now (entries .entry))) (tableOf (columns (now (letter .entry)) (now (low .entry)) (now (high .entry))) used)) (now (letter .exit)) (now (low .exit)) (now (high .exit)) (now (index .exit)) r ⌝ }
+    requires { ⌜ Inner (now net) n × Open (atPlace (now net) lettersPlace) (now letter) (now low) (now high) (now index) used × Evaluable (atPlace (now net) lettersPlace) (held (now letter) (now low) (now high) used) used left (now entries) × Sized (now wletter) (now wlow) (now whigh) (now windex) × (left ≤ atPlace (now net) lettersPlace) ⌝ }
+    ensures { λ r. ⌜ Outcome (held (now (letter .entry)) (now (low .entry)) (now (high .entry)) used) (store (atPlace (now (net .entry)) lettersPlace) 0 (changeBy (netCircuit (now (net .entry))) time all n (atPlace (now (net .entry)) lettersPlace) (held (now (letter .entry)) (now (low .entry)) (now (high .entry)) used) (now (entries .entry))) (held (now (letter .entry)) (now (low .entry)) (now (high .entry)) used)) (now (letter .exit)) (now (low .exit)) (now (high .exit)) (now (index .exit)) r ⌝ }
 {
     let some = letters_left(net, letter, entries);
     if some == 0 {
@@ -150,7 +153,8 @@ pub fn evaluate(
         &lows,
         some - 1,
     );
-    if p.full {
+    let why = p.stop;
+    if stopped(why) {
         return p;
     }
     let q = evaluate(
@@ -170,7 +174,8 @@ pub fn evaluate(
         &highs,
         some - 1,
     );
-    if q.full {
+    let why = q.stop;
+    if stopped(why) {
         return q;
     }
     join(letter, low, high, index, q.used, m, p.entry, q.entry)

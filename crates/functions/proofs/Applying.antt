@@ -10,11 +10,11 @@ use Rattle.diagram.specs.declared.Operation.{Operation}
 use Rattle.diagram.specs.Table.{Table, terminalLetter, terminal, branch, entryAt}
 use Rattle.diagram.specs.Store.{add, store}
 use Rattle.diagram.specs.Operation.{apply, applied}
-use Rattle.diagram.specs.Call.{rows, tableOf}
+use Rattle.diagram.specs.Held.{entries, held}
 use Rattle.diagram.proofs.Sound.{Sound}
 use Rattle.diagram.proofs.Shannon.{apply-terminals, apply-parts, apply-extends}
 use Rattle.table.specs.declared.Put.{Put}
-use Rattle.table.specs.Holds.{columns, Outcome}
+use Rattle.table.specs.Holds.{Outcome}
 use Rattle.functions.specs.Open.{Open, Operand, PartsOf}
 use Rattle.functions.proofs.Carry.{legible-sound, legible-long, letter-at, low-at, parts-table, branch-letter, past-letter, part-operands}
 use Rattle.functions.proofs.Halving.{Halves}
@@ -25,10 +25,10 @@ leaf-done {t} {l} {w} {h} {ix} {r} v x e o = subst (λ (y : ℕ). Outcome t (add
 
 -- operands a and b of letters among the last `left`, and m, the least of their letters
 module _ {letters : ℕ} {l w h ix : List ℕ} {used : ℕ} (open' : Open letters l w h ix used) (o : Operation) {a b left m : ℕ}
-    (oa : Operand letters (tableOf (columns l w h) used) used left a) (ob : Operand letters (tableOf (columns l w h) used) used left b)
+    (oa : Operand letters (held l w h used) used left a) (ob : Operand letters (held l w h used) used left b)
     (least : m ≡ min (getD l a 0) (getD l b 0)) where
   abbrev t : Table
-  t = tableOf (columns l w h) used
+  t = held l w h used
 
   sound : Sound letters t
   sound = legible-sound (open' .legible)
@@ -44,8 +44,8 @@ module _ {letters : ℕ} {l w h ix : List ℕ} {used : ℕ} (open' : Open letter
 
   -- two terminals
   pub terminals-done : {l1 w1 h1 ix1 : List ℕ} {r : Put} → m ≡ terminalLetter
-      → Outcome (tableOf (columns l w h) used) (add (terminal (apply o (getD w a 0) (getD w b 0))) (tableOf (columns l w h) used)) l1 w1 h1 ix1 r
-      → Outcome (tableOf (columns l w h) used) (store letters 0 (applied letters (tableOf (columns l w h) used) o a b) (tableOf (columns l w h) used)) l1 w1 h1 ix1 r
+      → Outcome (held l w h used) (add (terminal (apply o (getD w a 0) (getD w b 0))) (held l w h used)) l1 w1 h1 ix1 r
+      → Outcome (held l w h used) (store letters 0 (applied letters (held l w h used) o a b) (held l w h used)) l1 w1 h1 ix1 r
   terminals-done {l1} {w1} {h1} {ix1} {r} leaf done =
       rw (apply-terminals t (open' .legible .few) sound o a b (letter-a ∙ past-letter (open' .legible) a (oa .within) (omega arith)) (letter-b ∙ past-letter (open' .legible) b (ob .within) (omega arith)), low-at (open' .legible) a (oa .within), low-at (open' .legible) b (ob .within)) done
 
@@ -62,16 +62,16 @@ module _ {letters : ℕ} {l w h ix : List ℕ} {used : ℕ} (open' : Open letter
     pub node-room : letters ≤ m + left
     node-room = omega (arith, oa .from, ob .from, letter-a, letter-b)
 
-    module _ {a0 a1 b0 b1 : ℕ} (qa : PartsOf (rows (columns l w h)) m a a0 a1) (qb : PartsOf (rows (columns l w h)) m b b0 b1) where
+    module _ {a0 a1 b0 b1 : ℕ} (qa : PartsOf (entries l w h) m a a0 a1) (qb : PartsOf (entries l w h) m b b0 b1) where
       -- the parts are operands with one letter less
-      pub parts-a : Operand letters (tableOf (columns l w h) used) used (left - 1) a0 × Operand letters (tableOf (columns l w h) used) used (left - 1) a1
+      pub parts-a : Operand letters (held l w h used) used (left - 1) a0 × Operand letters (held l w h used) used (left - 1) a1
       parts-a = part-operands (open' .legible) node-small node-room (omega arith) oa qa
 
-      pub parts-b : Operand letters (tableOf (columns l w h) used) used (left - 1) b0 × Operand letters (tableOf (columns l w h) used) used (left - 1) b1
+      pub parts-b : Operand letters (held l w h used) used (left - 1) b0 × Operand letters (held l w h used) used (left - 1) b1
       parts-b = part-operands (open' .legible) node-small node-room (omega arith) ob qb
 
       -- and the operation on them makes the operation
-      pub apply-halves : Halves letters (tableOf (columns l w h) used) m (applied letters (tableOf (columns l w h) used) o a b) (applied letters (tableOf (columns l w h) used) o a0 b0)
+      pub apply-halves : Halves letters (held l w h used) m (applied letters (held l w h used) o a b) (applied letters (held l w h used) o a0 b0)
           (λ u. applied letters u o a1 b1)
       apply-halves =
           let pa : PartsOf t m a a0 a1 = parts-table (open' .legible) (oa .within) qa in

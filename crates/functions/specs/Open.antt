@@ -9,8 +9,8 @@ use Rattle.lists.specs.Tests.{countBelow}
 use Rattle.diagram.specs.Pattern.{mostLetters}
 use Rattle.diagram.specs.Table.{Table, entryAt, partOf, numberFrom}
 use Rattle.diagram.specs.Sound.{sound}
-use Rattle.diagram.specs.Call.{tableOf}
-use Rattle.table.specs.Holds.{columns, Holds}
+use Rattle.diagram.specs.Held.{held}
+use Rattle.table.specs.Holds.{Holds}
 
 -- columns that hold a table which is sound for some letters
 pub record Legible (letters : ℕ) (l w h : List ℕ) (used : ℕ) : Type 0 where
@@ -18,12 +18,12 @@ pub record Legible (letters : ℕ) (l w h : List ℕ) (used : ℕ) : Type 0 wher
   pub low-long : length w ≡ length l
   pub high-long : length h ≡ length l
   pub fits : used ≤ length l
-  pub sound : sound letters (tableOf (columns l w h) used) ≡ true
+  pub sound : sound letters (held l w h used) ≡ true
 
 -- beside its index
 pub record Open (letters : ℕ) (l w h ix : List ℕ) (used : ℕ) : Type 0 where
   pub legible : Legible letters l w h used
-  pub holds : Holds l w h ix (tableOf (columns l w h) used) used
+  pub holds : Holds l w h ix (held l w h used) used
 
 -- an entry whose letters are among the last `left`
 pub record Operand (letters : ℕ) (t : Table) (used left e : ℕ) : Type 0 where

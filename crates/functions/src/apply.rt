@@ -5,8 +5,8 @@ ghost use lib.ListN.{length, getD};
 ghost use Rattle.diagram.specs.Table.{terminal};
 ghost use Rattle.diagram.specs.Store.{add as addOf, store};
 ghost use Rattle.diagram.specs.Operation.{apply as applyOf, applied};
-ghost use Rattle.diagram.specs.Call.{tableOf};
-ghost use Rattle.table.specs.Holds.{columns, Holds, Outcome};
+ghost use Rattle.diagram.specs.Held.{held};
+ghost use Rattle.table.specs.Holds.{Holds, Outcome};
 ghost use Rattle.functions.specs.Open.{Open, Operand};
 use crate::numbers::TERMINAL;
 use crate::numbers::apply_numbers;
@@ -15,6 +15,7 @@ use crate::step::join;
 use crate::step::parts;
 use diagram::Operation;
 use table::Put;
+use table::stopped;
 
 // Two terminals: the terminal of the operation's number.
 fn leaf(
@@ -28,8 +29,8 @@ fn leaf(
     b: u32,
 ) -> Put
     requires { ⌜ (a < length (now low)) × (b < length (now low)) ⌝ }
-    requires { ⌜ Holds (now letter) (now low) (now high) (now index) (tableOf (columns (now letter) (now low) (now high)) used) used ⌝ }
-    ensures { λ r. ⌜ Outcome (tableOf (columns (now (letter .entry)) (now (low .entry)) (now (high .entry))) used) (addOf (terminal (applyOf o (getD (now (low .entry)) a 0) (getD (now (low .entry)) b 0))) (tableOf (columns (now (letter .entry)) (now (low .entry)) (now (high .entry))) used)) (now (letter .exit)) (now (low .exit)) (now (high .exit)) (now (index .exit)) r ⌝ }
+    requires { ⌜ Holds (now letter) (now low) (now high) (now index) (held (now letter) (now low) (now high) used) used ⌝ }
+    ensures { λ r. ⌜ Outcome (held (now (letter .entry)) (now (low .entry)) (now (high .entry)) used) (addOf (terminal (applyOf o (getD (now (low .entry)) a 0) (getD (now (low .entry)) b 0))) (held (now (letter .entry)) (now (low .entry)) (now (high .entry)) used)) (now (letter .exit)) (now (low .exit)) (now (high .exit)) (now (index .exit)) r ⌝ }
 {
     let i = a as usize;
     let j = b as usize;
@@ -51,8 +52,8 @@ pub fn apply(
     left: u32,
 ) -> Put
     requires { ⌜ Open k (now letter) (now low) (now high) (now index) used ⌝ }
-    requires { ⌜ Operand k (tableOf (columns (now letter) (now low) (now high)) used) used left a × Operand k (tableOf (columns (now letter) (now low) (now high)) used) used left b ⌝ }
-    ensures { λ r. ⌜ Outcome (tableOf (columns (now (letter .entry)) (now (low .entry)) (now (high .entry))) used) (store k 0 (applied k (tableOf (columns (now (letter .entry)) (now (low .entry)) (now (high .entry))) used) o a b) (tableOf (columns (now (letter .entry)) (now (low .entry)) (now (high .entry))) used)) (now (letter .exit)) (now (low .exit)) (now (high .exit)) (now (index .exit)) r ⌝ }
+    requires { ⌜ Operand k (held (now letter) (now low) (now high) used) used left a × Operand k (held (now letter) (now low) (now high) used) used left b ⌝ }
+    ensures { λ r. ⌜ Outcome (held (now (letter .entry)) (now (low .entry)) (now (high .entry)) used) (store k 0 (applied k (held (now (letter .entry)) (now (low .entry)) (now (high .entry)) used) o a b) (held (now (letter .entry)) (now (low .entry)) (now (high .entry)) used)) (now (letter .exit)) (now (low .exit)) (now (high .exit)) (now (index .exit)) r ⌝ }
 {
     let m = first_letter(letter, a, b);
     if m == TERMINAL {
@@ -72,7 +73,8 @@ pub fn apply(
         pb.low,
         left - 1,
     );
-    if p.full {
+    let why = p.stop;
+    if stopped(why) {
         return p;
     }
     let q = apply(
@@ -87,7 +89,8 @@ pub fn apply(
         pb.high,
         left - 1,
     );
-    if q.full {
+    let why = q.stop;
+    if stopped(why) {
         return q;
     }
     join(letter, low, high, index, q.used, m, p.entry, q.entry)

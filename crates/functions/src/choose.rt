@@ -6,8 +6,8 @@ ghost use lib.ListN.{length, getD};
 ghost use lib.Dec.{eqb};
 ghost use Rattle.diagram.specs.Store.{store};
 ghost use Rattle.diagram.specs.Operation.{chosen};
-ghost use Rattle.diagram.specs.Call.{tableOf};
-ghost use Rattle.table.specs.Holds.{columns, Outcome};
+ghost use Rattle.diagram.specs.Held.{held};
+ghost use Rattle.table.specs.Holds.{Outcome};
 ghost use Rattle.functions.specs.Open.{Open, Operand};
 use crate::numbers::TERMINAL;
 use crate::numbers::least;
@@ -15,6 +15,8 @@ use crate::step::first_letter;
 use crate::step::join;
 use crate::step::parts;
 use table::Put;
+use table::Stop;
+use table::stopped;
 
 // The least letter of three entries.
 fn first_of(letter: &[u32], s: u32, a: u32, b: u32) -> u32
@@ -49,14 +51,14 @@ pub fn choose(
     left: u32,
 ) -> Put
     requires { ⌜ Open k (now letter) (now low) (now high) (now index) used ⌝ }
-    requires { ⌜ Operand k (tableOf (columns (now letter) (now low) (now high)) used) used left s × Operand k (tableOf (columns (now letter) (now low) (now high)) used) used left a × Operand k (tableOf (columns (now letter) (now low) (now high)) used) used left b ⌝ }
-    ensures { λ r. ⌜ Outcome (tableOf (columns (now (letter .entry)) (now (low .entry)) (now (high .entry))) used) (store k 0 (chosen k (tableOf (columns (now (letter .entry)) (now (low .entry)) (now (high .entry))) used) s a b) (tableOf (columns (now (letter .entry)) (now (low .entry)) (now (high .entry))) used)) (now (letter .exit)) (now (low .exit)) (now (high .exit)) (now (index .exit)) r ⌝ }
+    requires { ⌜ Operand k (held (now letter) (now low) (now high) used) used left s × Operand k (held (now letter) (now low) (now high) used) used left a × Operand k (held (now letter) (now low) (now high) used) used left b ⌝ }
+    ensures { λ r. ⌜ Outcome (held (now (letter .entry)) (now (low .entry)) (now (high .entry)) used) (store k 0 (chosen k (held (now (letter .entry)) (now (low .entry)) (now (high .entry)) used) s a b) (held (now (letter .entry)) (now (low .entry)) (now (high .entry)) used)) (now (letter .exit)) (now (low .exit)) (now (high .exit)) (now (index .exit)) r ⌝ }
 {
     let i = s as usize;
     if letter[i] == TERMINAL {
         let e = by_terminal(low, s, a, b);
         return Put {
-            full: false,
+            stop: Stop::Going,
             entry: e,
             used,
         };
@@ -77,7 +79,8 @@ pub fn choose(
         pb.low,
         left - 1,
     );
-    if p.full {
+    let why = p.stop;
+    if stopped(why) {
         return p;
     }
     let q = choose(
@@ -92,7 +95,8 @@ pub fn choose(
         pb.high,
         left - 1,
     );
-    if q.full {
+    let why = q.stop;
+    if stopped(why) {
         return q;
     }
     join(letter, low, high, index, q.used, m, p.entry, q.entry)

@@ -5,13 +5,15 @@ ghost use Prim.Native.Nat.{_<_, _≤_};
 ghost use lib.Dec.{eqb};
 ghost use Rattle.diagram.specs.Store.{store};
 ghost use Rattle.diagram.specs.Operation.{letterFixed};
-ghost use Rattle.diagram.specs.Call.{tableOf};
-ghost use Rattle.table.specs.Holds.{columns, Outcome};
+ghost use Rattle.diagram.specs.Held.{held};
+ghost use Rattle.table.specs.Holds.{Outcome};
 ghost use Rattle.functions.specs.Open.{Open, Operand};
 use crate::step::Halves;
 use crate::step::join;
 use crate::step::parts;
 use table::Put;
+use table::Stop;
+use table::stopped;
 
 // One of two parts, by a bit.
 fn side(h: Halves, bit: u32) -> u32
@@ -34,14 +36,14 @@ pub fn fix(
     left: u32,
 ) -> Put
     requires { ⌜ Open k (now letter) (now low) (now high) (now index) used ⌝ }
-    requires { ⌜ Operand k (tableOf (columns (now letter) (now low) (now high)) used) used left e × (j < k) × (bit ≤ 1) ⌝ }
-    ensures { λ r. ⌜ Outcome (tableOf (columns (now (letter .entry)) (now (low .entry)) (now (high .entry))) used) (store k 0 (letterFixed k (tableOf (columns (now (letter .entry)) (now (low .entry)) (now (high .entry))) used) e j bit) (tableOf (columns (now (letter .entry)) (now (low .entry)) (now (high .entry))) used)) (now (letter .exit)) (now (low .exit)) (now (high .exit)) (now (index .exit)) r ⌝ }
+    requires { ⌜ Operand k (held (now letter) (now low) (now high) used) used left e × (j < k) × (bit ≤ 1) ⌝ }
+    ensures { λ r. ⌜ Outcome (held (now (letter .entry)) (now (low .entry)) (now (high .entry)) used) (store k 0 (letterFixed k (held (now (letter .entry)) (now (low .entry)) (now (high .entry)) used) e j bit) (held (now (letter .entry)) (now (low .entry)) (now (high .entry)) used)) (now (letter .exit)) (now (low .exit)) (now (high .exit)) (now (index .exit)) r ⌝ }
 {
     let i = e as usize;
     let m = letter[i];
     if j < m {
         return Put {
-            full: false,
+            stop: Stop::Going,
             entry: e,
             used,
         };
@@ -50,13 +52,14 @@ pub fn fix(
     if m == j {
         let part = side(h, bit);
         return Put {
-            full: false,
+            stop: Stop::Going,
             entry: part,
             used,
         };
     }
     let p = fix(letter, low, high, index, used, k, h.low, j, bit, left - 1);
-    if p.full {
+    let why = p.stop;
+    if stopped(why) {
         return p;
     }
     let q = fix(
@@ -71,7 +74,8 @@ pub fn fix(
         bit,
         left - 1,
     );
-    if q.full {
+    let why = q.stop;
+    if stopped(why) {
         return q;
     }
     join(letter, low, high, index, q.used, m, p.entry, q.entry)

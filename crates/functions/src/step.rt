@@ -3,11 +3,12 @@ ghost use mathlib.Core.Path.{_≡_};
 ghost use Prim.Native.Nat.{_<_, min};
 ghost use lib.ListN.{length, getD};
 ghost use Rattle.diagram.specs.Store.{stored, join as joinOf};
-ghost use Rattle.diagram.specs.Call.{rows, tableOf};
-ghost use Rattle.table.specs.Holds.{columns, Holds, Outcome};
+ghost use Rattle.diagram.specs.Held.{entries, held};
+ghost use Rattle.table.specs.Holds.{Holds, Outcome};
 ghost use Rattle.functions.specs.Open.{PartsOf};
 use crate::numbers::least;
 use table::Put;
+use table::Stop;
 
 // The least letter of two entries; a terminal's is past all.
 pub fn first_letter(letter: &[u32], a: u32, b: u32) -> u32
@@ -28,7 +29,7 @@ pub struct Halves {
 // The parts of entry `e` at letter `m`: the entry itself where its letter is another.
 pub fn parts(letter: &[u32], low: &[u32], high: &[u32], m: u32, e: u32) -> Halves
     requires { ⌜ (e < length (now letter)) × (length (now low) ≡ length (now letter)) × (length (now high) ≡ length (now letter)) ⌝ }
-    ensures { λ r. ⌜ PartsOf (rows (columns (now (letter .entry)) (now (low .entry)) (now (high .entry)))) m e (r .low) (r .high) ⌝ }
+    ensures { λ r. ⌜ PartsOf (entries (now (letter .entry)) (now (low .entry)) (now (high .entry))) m e (r .low) (r .high) ⌝ }
 {
     let i = e as usize;
     if letter[i] == m {
@@ -51,12 +52,12 @@ pub fn join(
     a: u32,
     b: u32,
 ) -> Put
-    requires { ⌜ Holds (now letter) (now low) (now high) (now index) (tableOf (columns (now letter) (now low) (now high)) used) used ⌝ }
-    ensures { λ r. ⌜ Outcome (tableOf (columns (now (letter .entry)) (now (low .entry)) (now (high .entry))) used) (joinOf m (stored (tableOf (columns (now (letter .entry)) (now (low .entry)) (now (high .entry))) used) a) (stored (tableOf (columns (now (letter .entry)) (now (low .entry)) (now (high .entry))) used) b)) (now (letter .exit)) (now (low .exit)) (now (high .exit)) (now (index .exit)) r ⌝ }
+    requires { ⌜ Holds (now letter) (now low) (now high) (now index) (held (now letter) (now low) (now high) used) used ⌝ }
+    ensures { λ r. ⌜ Outcome (held (now (letter .entry)) (now (low .entry)) (now (high .entry)) used) (joinOf m (stored (held (now (letter .entry)) (now (low .entry)) (now (high .entry)) used) a) (stored (held (now (letter .entry)) (now (low .entry)) (now (high .entry)) used) b)) (now (letter .exit)) (now (low .exit)) (now (high .exit)) (now (index .exit)) r ⌝ }
 {
     if a == b {
         return Put {
-            full: false,
+            stop: Stop::Going,
             entry: b,
             used,
         };

@@ -6,7 +6,7 @@ use Prim.Native.Nat.{ℕ, zero, suc, _+_, _<_, _≤_}
 use native.Mathlib.Omega.{arith}
 use lib.ListN.{length}
 use lib.Dec.{leb, ltb, eqb}
-use borrow.Author.Tests.{ltb-true, leb-true}
+use borrow.Author.Tests.{ltb-true}
 use Rattle.refusal.specs.declared.Refusal.{Refusal}
 use Rattle.refusal.specs.declared.Refusal.the-variants.{Full, Finished}
 use Rattle.refusal.specs.Number.{refusalNumber}
@@ -21,16 +21,16 @@ use Rattle.diagram.specs.Store.{fresh}
 use Rattle.diagram.proofs.Calls.{fresh-sound}
 use Rattle.rules.specs.Run.{Moment, startMoment, timeAfter, stepMoment, fitting}
 use Rattle.rules.proofs.Moment.{SoundMoment, start-sound, step-sound, step-time, time-within}
+use Rattle.rules.proofs.Admitted.{Admitted, admitting, answer-admitted}
 use Rattle.fields.specs.Line.{cellLine, refusedLine}
 use Rattle.lines.specs.Listing.{endLine, stopLine, startLines, startedLines, steppedLines, stepOf, following, stepsFrom, runLines, cellLines, listing}
 
--- an answered step: there is one, and it is the step's moment
-pub step-taken : (c : Circuit) (size : ℕ) (m next : Moment) → stepOf c size m ≡ answered next → (timeAfter c m < never) × (length (next .table) ≤ size) × (next ≡ stepMoment c m)
+-- an answered step: there is one, it is admitted, and the answer is its moment
+pub step-taken : (c : Circuit) (size : ℕ) (m next : Moment) → stepOf c size m ≡ answered next → (timeAfter c m < never) × Admitted c size m × (next ≡ stepMoment c m)
 step-taken c size m next e =
-    let one = check-passed (ltb (timeAfter c m) never) Finished (fitting size (stepMoment c m)) next e in
-    let two = check-passed (leb (length (stepMoment c m .table)) size) Full (answered (stepMoment c m)) next (one .1) in
-    let same : next ≡ stepMoment c m = sym (same-answer (two .1)) in
-    (ltb-true (timeAfter c m) never (one .0), rw same (leb-true (length (stepMoment c m .table)) size (two .0)), same)
+    let one = check-passed (ltb (timeAfter c m) never) Finished (admitting c size m) next e in
+    let two = answer-admitted (one .1) in
+    (ltb-true (timeAfter c m) never (one .0), two .0, two .1)
 
 -- a last line: an end or a refusal
 pub data Last : List ℕ → Type 0 where

@@ -16,8 +16,7 @@ ghost use mathlib.Core.Bool.{true, false};
 ghost use Prim.Native.Nat.{_+_, _<_, _≤_};
 ghost use lib.ListN.{length};
 ghost use Rattle.refusal.specs.declared.Reply.the-variants.{Done};
-ghost use Rattle.diagram.specs.Call.{tableOf};
-ghost use Rattle.table.specs.Holds.{columns};
+ghost use Rattle.diagram.specs.Held.{held};
 ghost use Rattle.functions.specs.Open.{Legible};
 ghost use Rattle.fields.specs.Line.{refusedLine};
 ghost use Rattle.lines.specs.Listing.{nodeLine, endLine, stopLine};
@@ -54,7 +53,7 @@ fn put_entry(
     e: u32,
 ) -> usize
     requires { ⌜ Legible k (now letter) (now low) (now high) used × (e < used) × (at + lineRoom ≤ length (now out)) ⌝ }
-    ensures { λ x. ⌜ Put (now (out .entry)) (now (out .exit)) at (entryLine k (tableOf (columns (now (letter .entry)) (now (low .entry)) (now (high .entry))) used) time listed n e) lineRoom x ⌝ }
+    ensures { λ x. ⌜ Put (now (out .entry)) (now (out .exit)) at (entryLine k (held (now (letter .entry)) (now (low .entry)) (now (high .entry)) used) time listed n e) lineRoom x ⌝ }
 {
     if !listed {
         return at;
@@ -76,7 +75,7 @@ fn put_nodes(
     before: [u32; 24],
 ) -> usize
     requires { ⌜ Entries (h .letters) (h .nodes) (now letter) (now low) (now high) (r .used) (r .values) × (at + callRoom ≤ length (now out)) ⌝ }
-    ensures { λ x. ⌜ Put (now (out .entry)) (now (out .exit)) at (nodeLines (h .letters) (h .nodes) (tableOf (columns (now (letter .entry)) (now (low .entry)) (now (high .entry))) (r .used)) (r .time) all (r .values) before) callRoom x ⌝ }
+    ensures { λ x. ⌜ Put (now (out .entry)) (now (out .exit)) at (nodeLines (h .letters) (h .nodes) (held (now (letter .entry)) (now (low .entry)) (now (high .entry)) (r .used)) (r .time) all (r .values) before) callRoom x ⌝ }
 {
     let values = r.values;
     let used = r.used;
@@ -128,7 +127,7 @@ pub fn put_started(
     r: Run,
 ) -> usize
     requires { ⌜ (reply ≡ Done → Entries (h .letters) (h .nodes) (now letter) (now low) (now high) (r .used) (r .values)) × (at + callRoom ≤ length (now out)) ⌝ }
-    ensures { λ x. ⌜ Put (now (out .entry)) (now (out .exit)) at (byReply reply (nodeLines (h .letters) (h .nodes) (tableOf (columns (now (letter .entry)) (now (low .entry)) (now (high .entry))) (r .used)) (r .time) true (r .values) (r .values)) refusedLine) callRoom x ⌝ }
+    ensures { λ x. ⌜ Put (now (out .entry)) (now (out .exit)) at (byReply reply (nodeLines (h .letters) (h .nodes) (held (now (letter .entry)) (now (low .entry)) (now (high .entry)) (r .used)) (r .time) true (r .values) (r .values)) refusedLine) callRoom x ⌝ }
 {
     match reply {
         Reply::Done => {
@@ -153,7 +152,7 @@ pub fn put_stepped(
     steps: u32,
 ) -> usize
     requires { ⌜ (reply ≡ Done → Entries (h .letters) (h .nodes) (now letter) (now low) (now high) (r .used) (r .values)) × (at + callRoom ≤ length (now out)) ⌝ }
-    ensures { λ x. ⌜ Put (now (out .entry)) (now (out .exit)) at (byReply reply (nodeLines (h .letters) (h .nodes) (tableOf (columns (now (letter .entry)) (now (low .entry)) (now (high .entry))) (r .used)) (r .time) false (r .values) (before .values)) (stopLine (before .time) steps)) callRoom x ⌝ }
+    ensures { λ x. ⌜ Put (now (out .entry)) (now (out .exit)) at (byReply reply (nodeLines (h .letters) (h .nodes) (held (now (letter .entry)) (now (low .entry)) (now (high .entry)) (r .used)) (r .time) false (r .values) (before .values)) (stopLine (before .time) steps)) callRoom x ⌝ }
 {
     match reply {
         Reply::Done => {

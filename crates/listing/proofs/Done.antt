@@ -11,10 +11,10 @@ use Rattle.refusal.specs.declared.Reply.the-variants.{Done, Refused}
 use Rattle.refusal.specs.Answer.{Answer, refused, answered, replyOf}
 use Rattle.format.specs.declared.Header.{Header}
 use Rattle.format.specs.Circuit.{Circuit, headerOf}
-use Rattle.diagram.specs.Call.{Columns, tableOf}
+use Rattle.diagram.specs.Call.{columns, Columns}
+use Rattle.diagram.specs.Held.{held}
 use Rattle.rules.specs.Run.{Moment}
 use Rattle.fields.specs.Line.{refusedLine}
-use Rattle.table.specs.Holds.{columns}
 use Rattle.record.specs.declared.Run.{Run}
 use Rattle.advance.specs.Went.{runAfter, tableAfter}
 use Rattle.run.specs.Done.{DoneAs}
@@ -31,12 +31,12 @@ module _ {c : Circuit} {h : Header} (same : headerOf c ≡ h) (table : Columns) 
   entries-by (answered m) holds run-is table-is e = rw (← same, run-is) (held-entries (holds m refl) table-is)
 
   start-by : (a : Answer Moment) → ((m : Moment) → a ≡ answered m → Holding c (length (table .letter)) m) → r′ ≡ runAfter r a → columns l w v ≡ tableAfter table a
-      → byReply (replyOf a) (nodeLines (h .letters) (h .nodes) (tableOf (columns l w v) (r′ .used)) (r′ .time) true (r′ .values) (r′ .values)) refusedLine ≡ startedLines c a
+      → byReply (replyOf a) (nodeLines (h .letters) (h .nodes) (held l w v (r′ .used)) (r′ .time) true (r′ .values) (r′ .values)) refusedLine ≡ startedLines c a
   start-by (refused why) holds run-is table-is = refl
   start-by (answered m) holds run-is table-is = rw (← same, run-is) (held-start (holds m refl) table-is [])
 
   step-by : (time steps : ℕ) (before : List ℕ) (a : Answer Moment) → ((m : Moment) → a ≡ answered m → Holding c (length (table .letter)) m) → r′ ≡ runAfter r a → columns l w v ≡ tableAfter table a
-      → byReply (replyOf a) (nodeLines (h .letters) (h .nodes) (tableOf (columns l w v) (r′ .used)) (r′ .time) false (r′ .values) before) (stopLine time steps) ≡ steppedLines c time before steps a
+      → byReply (replyOf a) (nodeLines (h .letters) (h .nodes) (held l w v (r′ .used)) (r′ .time) false (r′ .values) before) (stopLine time steps) ≡ steppedLines c time before steps a
   step-by time steps before (refused why) holds run-is table-is = refl
   step-by time steps before (answered m) holds run-is table-is = rw (← same, run-is) (held-step (holds m refl) table-is before)
 
@@ -59,18 +59,18 @@ module _ {c : Circuit} {h : Header} (same : headerOf c ≡ h) {table working wor
     }
 
     -- a start
-    pub listed-start : Put out out′ at (byReply reply (nodeLines (h .letters) (h .nodes) (tableOf (columns l w v) (r′ .used)) (r′ .time) true (r′ .values) (r′ .values)) refusedLine) callRoom end
+    pub listed-start : Put out out′ at (byReply reply (nodeLines (h .letters) (h .nodes) (held l w v (r′ .used)) (r′ .time) true (r′ .values) (r′ .values)) refusedLine) callRoom end
         → ListedAs table (columns l w v) working working′ r answer (startedLines c) out out′ at end r′ more
     listed-start p =
         listed (startedLines c) p
-        (ap (λ (x : Reply). byReply x (nodeLines (h .letters) (h .nodes) (tableOf (columns l w v) (r′ .used)) (r′ .time) true (r′ .values) (r′ .values)) refusedLine) (d .reply-is)
+        (ap (λ (x : Reply). byReply x (nodeLines (h .letters) (h .nodes) (held l w v (r′ .used)) (r′ .time) true (r′ .values) (r′ .values)) refusedLine) (d .reply-is)
         ∙ start-by same table r answer holds (d .run-is) (d .table-is))
 
     -- a step
     pub listed-step : (time steps : ℕ) (before : List ℕ)
-        → Put out out′ at (byReply reply (nodeLines (h .letters) (h .nodes) (tableOf (columns l w v) (r′ .used)) (r′ .time) false (r′ .values) before) (stopLine time steps)) callRoom end
+        → Put out out′ at (byReply reply (nodeLines (h .letters) (h .nodes) (held l w v (r′ .used)) (r′ .time) false (r′ .values) before) (stopLine time steps)) callRoom end
         → ListedAs table (columns l w v) working working′ r answer (steppedLines c time before steps) out out′ at end r′ more
     listed-step time steps before p =
         listed (steppedLines c time before steps) p
-        (ap (λ (x : Reply). byReply x (nodeLines (h .letters) (h .nodes) (tableOf (columns l w v) (r′ .used)) (r′ .time) false (r′ .values) before) (stopLine time steps)) (d .reply-is)
+        (ap (λ (x : Reply). byReply x (nodeLines (h .letters) (h .nodes) (held l w v (r′ .used)) (r′ .time) false (r′ .values) before) (stopLine time steps)) (d .reply-is)
         ∙ step-by same table r time steps before answer holds (d .run-is) (d .table-is))

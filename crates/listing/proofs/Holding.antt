@@ -19,14 +19,15 @@ use Rattle.format.proofs.Check.{check-same}
 use Rattle.format.proofs.Legal.{legal-limits}
 use Rattle.diagram.specs.Table.{Table, never}
 use Rattle.diagram.specs.Operation.{count}
-use Rattle.diagram.specs.Call.{Columns, leastEntries, mostEntries, lengthsLegal, tableOf, columnsOf, columnsSound}
+use Rattle.diagram.specs.Call.{columns, Columns, lengthsLegal, tableOf, columnsOf, columnsSound}
+use Rattle.diagram.specs.Held.{leastEntries, mostEntries, held}
 use Rattle.diagram.proofs.Columns.{Lengths, lengths-record, columns-record}
 use Rattle.rules.specs.Run as defined
-use Rattle.rules.specs.Run.{Moment, startMoment, timeAfter, stepMoment, fitting}
+use Rattle.rules.specs.Run.{Moment, startMoment, timeAfter, fitting}
 use Rattle.rules.specs.Call.{workingLegal, withCell, momentGiven, soundTogether, startCall, stepCall}
 use Rattle.rules.proofs.Moment.{SoundMoment, legal-few, start-sound, step-sound}
+use Rattle.rules.proofs.Admitted.{admitting, answer-admitted}
 use Rattle.rules.proofs.Readable.{given-sound, held-table, held-sound, held-lengths}
-use Rattle.table.specs.Holds.{columns}
 use Rattle.functions.specs.Open.{Legible}
 use Rattle.functions.proofs.Carry.{sound-legible}
 use Rattle.record.specs.declared.Run.{Run}
@@ -68,6 +69,13 @@ start-holds c table working used m e =
     let l : Lengths table = lengths-record table (and-left (lengthsLegal table) (workingLegal working) (one .0)) in
     fitting-holds (startMoment c (tableOf table used)) m (cell .0) (l .least) (l .most) (start-sound (cell .0) (columns-record (c .letters) table used (two .0) .table)) (two .1)
 
+-- an answered step of a sound moment
+pub admitted-holds : {c : Circuit} {size : ℕ} {m next : Moment} → checkCircuit c ≡ answered c → leastEntries ≤ size → size ≤ mostEntries → SoundMoment c m → timeAfter c m < never
+    → admitting c size m ≡ answered next → Holding c size next
+admitted-holds legal least most s more e =
+    let x = answer-admitted e in
+    rw (x .1) record { legal = legal; sound = step-sound legal s more; fits = x .0 .fits; least = least; most = most }
+
 -- an answered step
 pub step-holds : (c : Circuit) (table working : Columns) (r : defined.Run) (m : Moment) → stepCall (checkCircuit c) table r working ≡ answered m → Holding c (length (table .letter)) m
 unfolding stepCall
@@ -78,9 +86,7 @@ step-holds c table working r m e =
     let three = check-passed (ltb (timeAfter c (momentGiven table r)) never) Finished _ m (two .1) in
     let long : lengthsLegal table ≡ true = and-left (lengthsLegal table) (workingLegal working) (one .0) in
     let l : Lengths table = lengths-record table long in
-    fitting-holds (stepMoment c (momentGiven table r)) m (cell .0) (l .least) (l .most)
-    (step-sound (cell .0) (given-sound c table r long (two .0)) (ltb-true (timeAfter c (momentGiven table r)) never (three .0)))
-    (three .1)
+    admitted-holds (cell .0) (l .least) (l .most) (given-sound c table r long (two .0)) (ltb-true (timeAfter c (momentGiven table r)) never (three .0)) (three .1)
 
 -- lines that are the same one by one
 pub lines-same : (n : ℕ) (f g : ℕ → List ℕ) → ((i : ℕ) → f i ≡ g i) → linesOf n f ≡ linesOf n g
@@ -101,19 +107,19 @@ module _ {c : Circuit} {size : ℕ} {m : Moment} (k : Holding c size m) {l w h :
     within = λ i b. rw (padded-read mostNodes 0 (m .run .values) i) (omega (arith, k .sound .run .value-within i b, k .sound .used));
   }
 
-  held-is : tableOf (columns l w h) (m .run .used) ≡ m .table
+  held-is : held l w h (m .run .used) ≡ m .table
   held-is = ap (λ (t : Columns). tableOf t (m .run .used)) e ∙ held-table (k .sound) size (k .fits)
 
   pub held-lines : (all : Bool) (before : List ℕ)
-      → nodeLines (c .letters) (length (c .nodes)) (tableOf (columns l w h) (m .run .used)) (m .run .time) all (recordOf (m .run) .values) before
+      → nodeLines (c .letters) (length (c .nodes)) (held l w h (m .run .used)) (m .run .time) all (recordOf (m .run) .values) before
       ≡ nodeLines (c .letters) (length (c .nodes)) (m .table) (m .run .time) all (m .run .values) before
   held-lines all before =
       ap (λ (t : Table). nodeLines (c .letters) (length (c .nodes)) t (m .run .time) all (recordOf (m .run) .values) before) held-is
       ∙ lines-same (length (c .nodes)) _ _
       (λ i. ap (λ (v : ℕ). cond (all || not (eqb v (getD before i 0))) (nodeLine (m .run .time) (firstNodeNumber + i) (count (c .letters) (m .table) v)) []) (padded-read mostNodes 0 (m .run .values) i))
 
-  pub held-start : (before : List ℕ) → nodeLines (c .letters) (length (c .nodes)) (tableOf (columns l w h) (m .run .used)) (m .run .time) true (recordOf (m .run) .values) before ≡ startLines c m
+  pub held-start : (before : List ℕ) → nodeLines (c .letters) (length (c .nodes)) (held l w h (m .run .used)) (m .run .time) true (recordOf (m .run) .values) before ≡ startLines c m
   held-start before = held-lines true before
 
-  pub held-step : (before : List ℕ) → nodeLines (c .letters) (length (c .nodes)) (tableOf (columns l w h) (m .run .used)) (m .run .time) false (recordOf (m .run) .values) before ≡ stepLines c before m
+  pub held-step : (before : List ℕ) → nodeLines (c .letters) (length (c .nodes)) (held l w h (m .run .used)) (m .run .time) false (recordOf (m .run) .values) before ≡ stepLines c before m
   held-step before = held-lines false before

@@ -7,7 +7,7 @@ use native.Mathlib.Omega.{arith}
 use lib.Dec.{leb}
 use borrow.Author.Tests.{leb-true}
 use Rattle.lists.proofs.Cases.{and-right}
-use Rattle.diagram.specs.Call.{leastEntries, mostEntries}
+use Rattle.diagram.specs.Held.{leastEntries, mostEntries}
 use Rattle.text.specs.declared.Parsed.{Parsed}
 use Rattle.text.specs.declared.Parsed.the-variants.{Number, Large, Other}
 use Rattle.text.specs.Number.{parsed}

@@ -19,13 +19,15 @@ use Rattle.format.proofs.Legal.{legal-limits}
 use Rattle.format.proofs.Read.{read-checked}
 use Rattle.diagram.specs.Table.{never}
 use Rattle.diagram.specs.Store.{fresh}
-use Rattle.diagram.specs.Call.{Columns, leastEntries, mostEntries, lengthsLegal, columnsOf}
+use Rattle.diagram.specs.Call.{Columns, columnsOf}
+use Rattle.diagram.specs.Held.{leastEntries, mostEntries}
 use Rattle.diagram.proofs.Calls.{fresh-sound}
 use Rattle.diagram.proofs.Columns.{columns-length}
 use Rattle.rules.specs.Run as defined
-use Rattle.rules.specs.Run.{Moment, startMoment, timeAfter, stepMoment, fitting}
+use Rattle.rules.specs.Run.{Moment, startMoment, timeAfter, fitting}
 use Rattle.rules.specs.Call.{workingLegal, startCall, stepCall}
-use Rattle.rules.proofs.Moment.{SoundMoment, start-sound, step-sound}
+use Rattle.rules.proofs.Moment.{SoundMoment, start-sound}
+use Rattle.rules.proofs.Admitted.{admitting}
 use Rattle.rules.proofs.Readable.{held-step}
 use Rattle.record.specs.declared.Run.{Run}
 use Rattle.record.specs.Record.{recordOf}
@@ -37,7 +39,7 @@ use Rattle.fields.specs.Line.{cellLine}
 use Rattle.lines.specs.Listing.{lineAt, linesOf, stepLines, startedLines, steppedLines, stepOf, following, stepsFrom, runLines, cellLines, listing}
 use Rattle.listing.specs.Printed.{noRun, printedSteps, printedRun, printedCell, printed}
 use Rattle.commute.proofs.Trace.{start-fresh}
-use Rattle.listing.proofs.Holding.{Holding, fitting-holds, lines-same}
+use Rattle.listing.proofs.Holding.{Holding, fitting-holds, admitted-holds, lines-same}
 use Rattle.lines.proofs.Ends.{allowance-same}
 
 -- working stays legal: it is zero after an answered call
@@ -63,8 +65,8 @@ module _ {c : Circuit} {size : ℕ} {m : Moment} (h : Holding c size m) (working
 -- what an answered step holds
 next-holds : {c : Circuit} {size : ℕ} {m next : Moment} → Holding c size m → stepOf c size m ≡ answered next → Holding c size next
 next-holds {c} {size} {m} {next} h e =
-    let x = check-passed (ltb (timeAfter c m) never) Finished (fitting size (stepMoment c m)) next e in
-    fitting-holds (stepMoment c m) next (h .legal) (h .least) (h .most) (step-sound (h .legal) (h .sound) (ltb-true (timeAfter c m) never (x .0))) (x .1)
+    let x = check-passed (ltb (timeAfter c m) never) Finished (admitting c size m) next e in
+    admitted-holds (h .legal) (h .least) (h .most) (h .sound) (ltb-true (timeAfter c m) never (x .0)) (x .1)
 
 -- the steps from what is held
 steps-printed : (k steps : ℕ) {c : Circuit} {size : ℕ} {m : Moment} → Holding c size m → (working : Columns) → workingLegal working ≡ true

@@ -4,10 +4,10 @@ use mathlib.Core.Bool.{_&&_, cond}
 use mathlib.Core.List.{List}
 use Prim.Native.Nat.{ℕ, _≤_}
 use lib.Dec.{leb}
-use Rattle.diagram.specs.Call.{leastEntries, mostEntries}
 use Rattle.text.specs.declared.Parsed.{Parsed}
 use Rattle.text.specs.declared.Parsed.the-variants.{Number, Large, Other}
 use Rattle.text.specs.Number.{parsed}
+use Rattle.diagram.specs.Held.{leastEntries, mostEntries}
 
 -- a length in its range, or 0
 abbrev pub lengthOf : ℕ → ℕ

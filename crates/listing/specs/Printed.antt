@@ -7,7 +7,8 @@ use Rattle.format.specs.Circuit.{Circuit, headerOf}
 use Rattle.format.specs.Legal.{mostNodes, mostHorizon, checkCircuit}
 use Rattle.format.specs.File.{readCell}
 use Rattle.diagram.specs.Store.{fresh}
-use Rattle.diagram.specs.Call.{Columns, leastEntries, columnsOf}
+use Rattle.diagram.specs.Call.{Columns, columnsOf}
+use Rattle.diagram.specs.Held.{leastEntries}
 use Rattle.record.specs.declared.Run.{Run}
 use Rattle.advance.specs.declared.Task.the-variants.{Start, Step}
 use Rattle.advance.specs.Task.{taskCall}

@@ -20,9 +20,10 @@ use Rattle.rules.proofs.State.{Numbered, Shaped}
 use Rattle.rules.proofs.Arrive.{arrived-shaped, arrived-change, stepped-change}
 use Rattle.rules.proofs.Step.{initial-shaped, initial-change, started-change}
 use Rattle.rules.proofs.Local.{only, touches, Shared, Local, change-local}
-use Rattle.descent.specs.Settle.{pendingAfter}
+use Rattle.net.specs.Roots.{afterPlace, changePlace}
+use Rattle.plain.specs.Settle.{pendingAfter}
 use Rattle.descent.proofs.Channels.{leaf-change, leaf-values}
-use Rattle.attempt.specs.Change.{afterPlace, pendingPlace, pendingIn, beforeState, afterState, changeFrom}
+use Rattle.attempt.specs.Change.{pendingIn, beforeState, afterState, changeFrom}
 
 -- states with the same values
 abbrev pub Alike : State → State → Type 0
@@ -66,7 +67,7 @@ module _ (c : Circuit) where
 pub record Shown (c : Circuit) (before after : State) (n : ℕ) (numbers : List ℕ) : Type 0 where
   pub before-is : (m : ℕ) → Numbered c m → getD numbers m 0 ≡ valueAt before m
   pub after-is : (m : ℕ) → Numbered c m → getD numbers (afterPlace + m) 0 ≡ valueAt after m
-  pub pending-is : getD numbers pendingPlace 0 ≡ changeAt before n
+  pub pending-is : getD numbers changePlace 0 ≡ changeAt before n
 
 module _ (c : Circuit) (n : ℕ) (inner : isInner c n ≡ true) (own : Numbered c n) (numbers : List ℕ) where
   -- rules 2 to 7 by such numbers

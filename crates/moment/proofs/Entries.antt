@@ -1,7 +1,7 @@
 -- The entries from which a step and a start make the next changes: what a call of `changes` requires, and that its functions are the definitions'.
 use mathlib.Core.Path.{_≡_, refl, sym, _∙_, ap}
 use mathlib.Core.List.{List}
-use mathlib.Core.Bool.{Bool, true, false}
+use mathlib.Core.Bool.{true, false}
 use Prim.Native.Nat.{ℕ, _-_, _≤_, _<_}
 use native.Mathlib.Omega.{arith}
 use lib.ListN.{length, getD, take, replicate, getD-replicate}
@@ -10,11 +10,12 @@ use Rattle.format.specs.Circuit.{Circuit}
 use Rattle.lists.proofs.Map.{map-at}
 use Rattle.diagram.specs.Pattern.{mostLetters, patterns}
 use Rattle.diagram.specs.Table.{Table, never, numberAt}
-use Rattle.diagram.specs.Call.{tableOf}
+use Rattle.diagram.specs.Held.{held}
 use Rattle.diagram.proofs.Sound.{Sound}
 use Rattle.diagram.proofs.Add.{Extends}
 use Rattle.diagram.proofs.Number.{numberAt-extends, number-second}
-use Rattle.table.specs.Holds.{columns}
+use Rattle.table.specs.declared.Stop.{Stop}
+use Rattle.table.specs.Stop.{stopped}
 use Rattle.rules.specs.State.{State, valueAt, changeAt}
 use Rattle.rules.specs.Step.{stepped, initial, started}
 use Rattle.rules.specs.Run.{stateOf}
@@ -79,12 +80,12 @@ module _ (c : Circuit) (few : c .letters ≤ mostLetters) (t : Table) (s : Sound
 abbrev pub after : Circuit → ℕ → Table → Run → ℕ → State
 after c time t r p = stepped c time p (stateOf c t (runOf c r) p)
 
-module _ (c : Circuit) (nodes : length (c .nodes) ≤ 24) (few : c .letters ≤ mostLetters) (t : Table) (s : Sound (c .letters) t) {l w h ix : List ℕ} {full : Bool} {used : ℕ} {entries : List ℕ} where
+module _ (c : Circuit) (nodes : length (c .nodes) ≤ 24) (few : c .letters ≤ mostLetters) (t : Table) (s : Sound (c .letters) t) {l w h ix : List ℕ} {stop : Stop} {used : ℕ} {entries : List ℕ} where
   -- a step
-  module _ (r : Run) (rs : RunSound c t (runOf c r)) (time : ℕ) (o : OutcomeAll t (storedValues c (after c time t r) t) l w h ix full used entries) (fits : full ≡ false)
+  module _ (r : Run) (rs : RunSound c t (runOf c r)) (time : ℕ) (o : OutcomeAll t (storedValues c (after c time t r) t) l w h ix stop used entries) (fits : stopped stop ≡ false)
       {ob oa op : List ℕ} (b : ByNode 0 1 (r .values) (length (c .nodes)) ob) (a : ByNode 0 1 entries (length (c .nodes)) oa) (g : ByNode 2 2 (r .changes) (length (c .nodes)) op) where
     abbrev u : Table
-    u = tableOf (columns l w h) used
+    u = held l w h used
 
     states : States c (r .time) (stateOf c t (runOf c r))
     states = sound-states few s rs
@@ -107,7 +108,7 @@ module _ (c : Circuit) (nodes : length (c .nodes) ≤ 24) (few : c .letters ≤ 
     pendings : Numbering c u (λ p m. changeAt (stateOf c t (runOf c r) p) m) op
     pendings = placed-numbering c g u (λ p m. changeAt (stateOf c t (runOf c r) p) m) (change-number c few t s r rs u xu)
 
-    pub step-entries : ValueEntries (c .letters) (tableOf (columns l w h) used) used ob × ValueEntries (c .letters) (tableOf (columns l w h) used) used oa × PendingEntries used op
+    pub step-entries : ValueEntries (c .letters) (held l w h used) used ob × ValueEntries (c .letters) (held l w h used) used oa × PendingEntries used op
     step-entries = (
       rw lu at (values-placed c u su few _ b (value-in c few t s r rs u xu) befores (λ m k p i. states .bits p i .bit m k)),
       rw lu at (values-placed c u su few _ a (mid-within c time (after c time t r) t few s o fits) afters (λ m k p i. stepped-bits c time p (stateOf c t (runOf c r) p) (states .bits p i) .bit m k)),
@@ -115,21 +116,21 @@ module _ (c : Circuit) (nodes : length (c .nodes) ≤ 24) (few : c .letters ≤ 
     )
 
     -- the least numbers of the run's table are those of its next changes
-    pub step-leasts : {least : List ℕ} → Leasts (c .letters) t (length t) least → PendingLeasts (c .letters) (tableOf (columns l w h) used) op least
+    pub step-leasts : {least : List ℕ} → Leasts (c .letters) t (length t) least → PendingLeasts (c .letters) (held l w h used) op least
     step-leasts z j i =
         let small : getD op j 0 < length t = placed-within c g (length t) (omega (arith, s .three)) (omega (arith, s .three)) (change-old c few t s r rs u xu) j in
         leasts-same (leasts-less z (omega arith)) (λ e p k. numberAt-extends e p few s xu (omega arith))
 
-    pub step-functions : (n : ℕ) → Numbered c n → (p : ℕ) → p < patterns (c .letters) → changeOf c time false (c .letters) (tableOf (columns l w h) used) ob oa op n p ≡ changeAt (after c time t r p) n
+    pub step-functions : (n : ℕ) → Numbered c n → (p : ℕ) → p < patterns (c .letters) → changeOf c time false (c .letters) (held l w h used) ob oa op n p ≡ changeAt (after c time t r p) n
     step-functions =
         step-change c u ob oa op nodes (b .long) (a .long) time (r .time) (stateOf c t (runOf c r)) (states .shaped) (states .pending) befores
         (record { number = λ m k p i. afters .number m k p i ∙ stepped-value c time p (stateOf c t (runOf c r) p) m })
         pendings
 
   -- a start
-  module _ (o : OutcomeAll t (storedValues c (started c) t) l w h ix full used entries) (fits : full ≡ false) {oa : List ℕ} (a : ByNode 0 1 entries (length (c .nodes)) oa) where
+  module _ (o : OutcomeAll t (storedValues c (started c) t) l w h ix stop used entries) (fits : stopped stop ≡ false) {oa : List ℕ} (a : ByNode 0 1 entries (length (c .nodes)) oa) where
     abbrev v : Table
-    v = tableOf (columns l w h) used
+    v = held l w h used
 
     first-sound : Sound (c .letters) v
     first-sound = mid-sound c 0 (started c) t few s o fits
@@ -151,7 +152,7 @@ module _ (c : Circuit) (nodes : length (c .nodes) ≤ 24) (few : c .letters ≤ 
       number = λ m k p i. ap (λ (e : ℕ). numberAt (c .letters) v e p) (nothing m (omega (arith, k .most))) ∙ number-second v p few first-sound ∙ sym (initial-change c p m k);
     }
 
-    pub start-entries : ValueEntries (c .letters) (tableOf (columns l w h) used) used oa × ValueEntries (c .letters) (tableOf (columns l w h) used) used oa × PendingEntries used (replicate 26 2)
+    pub start-entries : ValueEntries (c .letters) (held l w h used) used oa × ValueEntries (c .letters) (held l w h used) used oa × PendingEntries used (replicate 26 2)
     start-entries =
         let both : ValueEntries (c .letters) v (length v) oa = values-placed c v first-sound few _ a (mid-within c 0 (started c) t few s o fits) firsts (λ m k p i. started-bits c p .bit m k) in
         let e : PendingEntries (length v) (replicate 26 2) = record { long = refl; within = λ j i. omega (arith, nothing j i, first-sound .three) } in
@@ -159,9 +160,9 @@ module _ (c : Circuit) (nodes : length (c .nodes) ≤ 24) (few : c .letters ≤ 
 
     -- the first three entries are 0, 1 and never at every pattern
     pub start-leasts : {least : List ℕ} → length least ≡ 3 → getD least 0 0 ≡ 0 → getD least 1 0 ≡ 1 → getD least 2 0 ≡ never
-        → PendingLeasts (c .letters) (tableOf (columns l w h) used) (replicate 26 2) least
+        → PendingLeasts (c .letters) (held l w h used) (replicate 26 2) least
     start-leasts long ground supply rest j i = leasts-less (leasts-three few first-sound _ (omega arith) ground supply rest) (omega (arith, nothing j i))
 
     pub start-functions : (n : ℕ) → Numbered c n → (p : ℕ) → p < patterns (c .letters)
-        → changeOf c 0 true (c .letters) (tableOf (columns l w h) used) oa oa (replicate 26 2) n p ≡ changeAt (started c p) n
+        → changeOf c 0 true (c .letters) (held l w h used) oa oa (replicate 26 2) n p ≡ changeAt (started c p) n
     start-functions = start-change c v oa oa (replicate 26 2) nodes (a .long) (a .long) initials initials nones

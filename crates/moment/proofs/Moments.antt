@@ -1,12 +1,11 @@
 -- From the values and the next changes that were stored to the moment of a start or a step.
 use mathlib.Core.Path.{_≡_, refl, sym, _∙_, ap, subst}
 use mathlib.Core.List.{List, map}
-use mathlib.Core.Bool.{Bool, true, false}
+use mathlib.Core.Bool.{true, false}
 use Prim.Native.Nat.{ℕ, _+_, _-_, _≤_, _<_}
 use native.Mathlib.Omega.{arith}
 use lib.ListN.{length, getD, length-map}
 use lib.Dec.{ltb}
-use borrow.Author.Tests.{lt-ltb, ltb-true}
 use Rattle.lists.specs.Padded.{padded}
 use Rattle.lists.proofs.Padded.{padded-read}
 use Rattle.lists.proofs.Cases.{true-false}
@@ -15,10 +14,12 @@ use Rattle.format.specs.Legal.{mostNodes}
 use Rattle.lists.proofs.Map.{map-at}
 use Rattle.diagram.specs.Pattern.{mostLetters, patterns}
 use Rattle.diagram.specs.Table.{Table, numberAt}
-use Rattle.diagram.specs.Call.{tableOf}
+use Rattle.diagram.specs.Held.{held}
 use Rattle.diagram.proofs.Sound.{Sound}
 use Rattle.diagram.proofs.Add.{Extends}
-use Rattle.table.specs.Holds.{columns}
+use Rattle.table.specs.declared.Stop.{Stop}
+use Rattle.table.specs.Stop.{stopped, fullIf}
+use Rattle.table.proofs.Stops.{stop-more}
 use Rattle.table.proofs.Outcomes.{holds-table, kept-extends}
 use Rattle.functions.specs.Open.{Open}
 use Rattle.functions.proofs.Carry.{open-next}
@@ -35,9 +36,9 @@ use Rattle.moment.specs.Next.{NextAs}
 use Rattle.moment.proofs.Storing.{stored-alike}
 
 -- no room for the next changes
-pub gathers-none : {time : ℕ} {values : List ℕ} {full : Bool} {used : ℕ} {changes : List ℕ} {none : Bool} {r : Run} → none ≡ true → full ≡ true
-    → Gathers time values full used changes none r
-gathers-none {full = full} e q = record { none-is = e ∙ sym q; run-is = λ z. true-false full q z }
+pub gathers-none : {time : ℕ} {values : List ℕ} {stop : Stop} {used : ℕ} {changes : List ℕ} {none : Stop} {r : Run} → none ≡ stop → stopped stop ≡ true
+    → Gathers time values stop used changes none r
+gathers-none {stop = stop} e q = record { none-is = e; run-is = λ z. true-false (stopped stop) q z }
 
 module _ (c : Circuit) (time : ℕ) (states : ℕ → State) (t : Table) (few : c .letters ≤ mostLetters) (s : Sound (c .letters) t) where
   abbrev vs : StoredAll
@@ -60,30 +61,30 @@ module _ (c : Circuit) (time : ℕ) (states : ℕ → State) (t : Table) (few : 
   moment-longer : length (vs .table) ≤ length (momentOf c time states t .table)
   moment-longer = rw moment-table (all-stored (eachNode c changeAt states) (vs .table) few (stored .sound) .extends .longer)
 
-  module _ {l w h ix : List ℕ} {full : Bool} {used : ℕ} {entries : List ℕ} (o : OutcomeAll t (storedValues c states t) l w h ix full used entries) where
+  module _ {l w h ix : List ℕ} {stop : Stop} {used : ℕ} {entries : List ℕ} (o : OutcomeAll t (storedValues c states t) l w h ix stop used entries) where
     -- where the values do not fit, nothing does
-    pub values-over : full ≡ true → {none : Bool} (r : Run) → none ≡ true → NextAs t (momentOf c time states t) l w h ix none r
+    pub values-over : stopped stop ≡ true → {none : Stop} (r : Run) → none ≡ stop → NextAs t (momentOf c time states t) l w h ix none r
     values-over e {none} r q =
-        let over : length l < length (vs .table) = ltb-true (length l) (length (vs .table)) (sym (o .full-is) ∙ e) in
+        let over : stopped none ≡ true = ap stopped q ∙ e in
         record {
-          full-is = q ∙ sym (lt-ltb (length l) (length (momentOf c time states t .table)) (omega (arith, moment-longer)));
-          run-is = λ z. true-false none q z;
-          holds = λ z. true-false none q z;
+          stop-is = q ∙ stop-more (length l) (length (vs .table)) (o .stop-is) e (length (momentOf c time states t .table)) moment-longer;
+          run-is = λ z. true-false (stopped none) over z;
+          holds = λ z. true-false (stopped none) over z;
           kept = o .kept;
         }
 
-    module _ (fits : full ≡ false) where
+    module _ (fits : stopped stop ≡ false) where
       -- the table that the values left
-      pub mid-table : tableOf (columns l w h) used ≡ vs .table
+      pub mid-table : held l w h used ≡ vs .table
       mid-table = holds-table (o .holds fits)
 
-      pub mid-sound : Sound (c .letters) (tableOf (columns l w h) used)
+      pub mid-sound : Sound (c .letters) (held l w h used)
       mid-sound = rw mid-table (stored .sound)
 
-      pub mid-extends : Extends t (tableOf (columns l w h) used)
+      pub mid-extends : Extends t (held l w h used)
       mid-extends = rw mid-table (stored .extends)
 
-      pub mid-long : length (tableOf (columns l w h) used) ≡ used
+      pub mid-long : length (held l w h used) ≡ used
       mid-long = ap length mid-table ∙ sym (o .holds fits .long)
 
       pub mid-open : Open (c .letters) l w h ix used
@@ -96,11 +97,11 @@ module _ (c : Circuit) (time : ℕ) (states : ℕ → State) (t : Table) (few : 
       count = length-map (nodeNumbers c) (λ (n : ℕ) (p : ℕ). valueAt (states p) n) ∙ up-length (length (c .nodes)) 2
 
       -- the values' entries are in it
-      pub mid-within : (i : ℕ) → i < length (c .nodes) → getD entries i 0 < length (tableOf (columns l w h) used)
+      pub mid-within : (i : ℕ) → i < length (c .nodes) → getD entries i 0 < length (held l w h used)
       mid-within i k = rw (mid-table, mid-entry i) (stored .within i (omega (arith, count)))
 
       -- and have the values for numbers
-      pub mid-number : (m : ℕ) → Numbered c m → (p : ℕ) → p < patterns (c .letters) → numberAt (c .letters) (tableOf (columns l w h) used) (getD entries (m - 2) 0) p ≡ valueAt (states p) m
+      pub mid-number : (m : ℕ) → Numbered c m → (p : ℕ) → p < patterns (c .letters) → numberAt (c .letters) (held l w h used) (getD entries (m - 2) 0) p ≡ valueAt (states p) m
       mid-number m k p b =
           let i : m - 2 < length (c .nodes) = omega (arith, k .least, k .most) in
           let e : 2 + (m - 2) ≡ m = omega (arith, k .least) in
@@ -110,24 +111,24 @@ module _ (c : Circuit) (time : ℕ) (states : ℕ → State) (t : Table) (few : 
           ∙ ap (valueAt (states p)) (up-at (length (c .nodes)) 2 (m - 2) 0 i ∙ e))
 
       -- the next changes after the values are the moment
-      pub mid-next : {f : ℕ → ℕ → ℕ} {l₂ w₂ h₂ ix₂ : List ℕ} {full₂ : Bool} {used₂ : ℕ} {entries₂ : List ℕ} {none : Bool} {r : Run}
+      pub mid-next : {f : ℕ → ℕ → ℕ} {l₂ w₂ h₂ ix₂ : List ℕ} {stop₂ : Stop} {used₂ : ℕ} {entries₂ : List ℕ} {none : Stop} {r : Run}
           → ((n : ℕ) → Numbered c n → (p : ℕ) → p < patterns (c .letters) → f n p ≡ changeAt (states p) n)
-          → OutcomeAll (tableOf (columns l w h) used) (storeAll (c .letters) (map f (nodeNumbers c)) (tableOf (columns l w h) used)) l₂ w₂ h₂ ix₂ full₂ used₂ entries₂
-          → Gathers time entries full₂ used₂ entries₂ none r
+          → OutcomeAll (held l w h used) (storeAll (c .letters) (map f (nodeNumbers c)) (held l w h used)) l₂ w₂ h₂ ix₂ stop₂ used₂ entries₂
+          → Gathers time entries stop₂ used₂ entries₂ none r
           → NextAs t (momentOf c time states t) l₂ w₂ h₂ ix₂ none r
-      mid-next {f} {l₂} {w₂} {h₂} {ix₂} {full₂} {used₂} {entries₂} {none} {r} same o₂ g =
-          let alike : storeAll (c .letters) (map f (nodeNumbers c)) (tableOf (columns l w h) used) ≡ cs =
-          stored-alike c (c .letters) f (λ (n : ℕ) (p : ℕ). changeAt (states p) n) (tableOf (columns l w h) used) same
+      mid-next {f} {l₂} {w₂} {h₂} {ix₂} {stop₂} {used₂} {entries₂} {none} {r} same o₂ g =
+          let alike : storeAll (c .letters) (map f (nodeNumbers c)) (held l w h used) ≡ cs =
+          stored-alike c (c .letters) f (λ (n : ℕ) (p : ℕ). changeAt (states p) n) (held l w h used) same
           ∙ ap (storeAll (c .letters) (eachNode c changeAt states)) mid-table in
-          let q : OutcomeAll (tableOf (columns l w h) used) cs l₂ w₂ h₂ ix₂ full₂ used₂ entries₂ =
-          subst (λ (z : StoredAll). OutcomeAll (tableOf (columns l w h) used) z l₂ w₂ h₂ ix₂ full₂ used₂ entries₂) alike o₂ in
-          let fit : none ≡ false → full₂ ≡ false = λ z. sym (g .none-is) ∙ z in
-          let own : none ≡ false → r ≡ recordOf (momentOf c time states t .run) =
+          let q : OutcomeAll (held l w h used) cs l₂ w₂ h₂ ix₂ stop₂ used₂ entries₂ =
+          subst (λ (z : StoredAll). OutcomeAll (held l w h used) z l₂ w₂ h₂ ix₂ stop₂ used₂ entries₂) alike o₂ in
+          let fit : stopped none ≡ false → stopped stop₂ ≡ false = λ z. ap stopped (sym (g .none-is)) ∙ z in
+          let own : stopped none ≡ false → r ≡ recordOf (momentOf c time states t .run) =
           λ z. g .run-is (fit z)
           ∙ (λ i. record { time = time; used = q .holds (fit z) .long i; values = o .entries-are fits i; changes = q .entries-are (fit z) i })
           ∙ sym moment-record in
           record {
-            full-is = g .none-is ∙ q .full-is ∙ ap (λ (u : Table). ltb (length l₂) (length u)) (sym moment-table);
+            stop-is = g .none-is ∙ q .stop-is ∙ ap (λ (u : Table). fullIf (ltb (length l₂) (length u))) (sym moment-table);
             run-is = own;
             holds = λ z.
                 let e : r .used ≡ used₂ = ap (λ (x : Run). x .used) (g .run-is (fit z)) in

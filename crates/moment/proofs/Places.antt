@@ -10,6 +10,7 @@ use Rattle.lists.proofs.Cases.{eq-or-ne}
 use Rattle.lists.proofs.Padded.{replicate-read, padded-length, padded-at}
 use Rattle.lists.proofs.Map.{map-at}
 use Rattle.diagram.specs.Table.{Table, numberAt}
+use Rattle.net.specs.Roots.{rootsLength, changePlace}
 use Rattle.descent.specs.Settle.{leafAt}
 use Rattle.changes.specs.Changes.{entriesFor}
 use Rattle.moment.specs.ByNode.{ByNode}
@@ -76,13 +77,13 @@ module _ (k : ℕ) (t : Table) (before after pending : List ℕ) (n p : ℕ) (lb
 
   number-of : (j : ℕ) → j < 53 → getD (leafAt k t (entriesFor before after pending n) p) j 0 ≡ numberAt k t (getD front j 0) p
   number-of j h =
-      map-at (λ (e : ℕ). numberAt k t e p) (entriesFor before after pending n) 0 0 j (omega (arith, padded-length 92 0 front (omega (arith, front-long))))
-      ∙ ap (λ (e : ℕ). numberAt k t e p) (padded-at 92 0 front j 0 (omega (arith, front-long)))
+      map-at (λ (e : ℕ). numberAt k t e p) (entriesFor before after pending n) 0 0 j (omega (arith, padded-length rootsLength 0 front (omega (arith, front-long))))
+      ∙ ap (λ (e : ℕ). numberAt k t e p) (padded-at rootsLength 0 front j 0 (omega (arith, front-long)))
 
-  both-long : length (before ++ after) ≡ 52
+  both-long : length (before ++ after) ≡ changePlace
   both-long = simp length-append (omega arith)
 
-  in-front : (j : ℕ) → j < 52 → getD front j 0 ≡ getD (before ++ after) j 0
+  in-front : (j : ℕ) → j < changePlace → getD front j 0 ≡ getD (before ++ after) j 0
   in-front j h = List·getD-append (before ++ after) own 0 j (omega (arith, both-long))
 
   pub number-before : (j : ℕ) → j < 26 → getD (leafAt k t (entriesFor before after pending n) p) j 0 ≡ numberAt k t (getD before j 0) p
@@ -96,7 +97,7 @@ module _ (k : ℕ) (t : Table) (before after pending : List ℕ) (n p : ℕ) (lb
       ∙ ap (λ (e : ℕ). numberAt k t e p)
       (in-front (26 + j) (omega arith) ∙ ap (λ (m : ℕ). getD (before ++ after) (m + j) 0) (sym lb) ∙ getD-append-add before after j 0)
 
-  pub number-pending : getD (leafAt k t (entriesFor before after pending n) p) 52 0 ≡ numberAt k t (getD pending n 0) p
+  pub number-pending : getD (leafAt k t (entriesFor before after pending n) p) changePlace 0 ≡ numberAt k t (getD pending n 0) p
   number-pending =
-      number-of 52 (omega arith)
+      number-of changePlace (omega arith)
       ∙ ap (λ (e : ℕ). numberAt k t e p) (ap (λ (m : ℕ). getD front (m + 0) 0) (sym both-long) ∙ getD-append-add (before ++ after) own 0 0)

@@ -4,27 +4,29 @@
 use changes::changes;
 use functions::numbers::NEVER;
 use record::Run;
+use table::Stop;
+use table::stopped;
 use values::Many;
 use values::arrive::arrive;
 use values::source::sources;
 ghost use mathlib.Core.Path.{_≡_};
 ghost use mathlib.Core.Bool.{true};
 ghost use Prim.Native.Nat.{_≤_};
-ghost use Rattle.diagram.specs.Call.{tableOf};
-ghost use Rattle.table.specs.Holds.{columns, Sized};
+ghost use Rattle.table.specs.Holds.{Sized};
 ghost use Rattle.functions.specs.Open.{Open};
 ghost use Rattle.rules.specs.Run.{startMoment, timeAfter, stepMoment, runSound};
-ghost use Rattle.rules.specs.Call.{momentGiven};
 ghost use Rattle.record.specs.Record.{runOf};
+ghost use Rattle.record.specs.Moments.{momentHeld};
 ghost use Rattle.record.specs.Leasts.{Leasts};
 ghost use Rattle.net.specs.Net.{lettersPlace, at as atPlace, netCircuit};
 ghost use Rattle.net.specs.Laid.{Laid};
 ghost use Rattle.moment.specs.ByNode.{ByNode, Gathers};
 ghost use Rattle.moment.specs.Next.{NextAs};
+ghost use Rattle.diagram.specs.Held.{held};
 
 // The run after a start or a step, unless there was no room.
 pub struct Next {
-    pub full: bool,
+    pub stop: Stop,
     pub run: Run,
 }
 
@@ -44,11 +46,12 @@ fn by_number(ground: u32, supply: u32, entries: [u32; 24], count: usize) -> [u32
     out
 }
 
-fn no_room() -> Next
-    ensures { λ x. ⌜ x .full ≡ true ⌝ }
+// No run, for a reason.
+fn nothing(stop: Stop) -> Next
+    ensures { λ x. ⌜ x .stop ≡ stop ⌝ }
 {
     Next {
-        full: true,
+        stop,
         run: Run {
             time: 0,
             used: 0,
@@ -60,14 +63,15 @@ fn no_room() -> Next
 
 // The run of values and next changes that were stored.
 fn gathered(time: u32, values: [u32; 24], c: Many) -> Next
-    ensures { λ x. ⌜ Gathers time values (c .full) (c .used) (c .entries) (x .full) (x .run) ⌝ }
+    ensures { λ x. ⌜ Gathers time values (c .stop) (c .used) (c .entries) (x .stop) (x .run) ⌝ }
 {
-    if c.full {
-        return no_room();
+    let why = c.stop;
+    if stopped(why) {
+        return nothing(why);
     }
     let changes = c.entries;
     Next {
-        full: false,
+        stop: why,
         run: Run {
             time,
             used: c.used,
@@ -91,11 +95,12 @@ pub fn start(
     windex: &mut [u32],
 ) -> Next
     requires { ⌜ Laid (netCircuit (now net)) (now net) × Open (atPlace (now net) lettersPlace) (now letter) (now low) (now high) (now index) used × Sized (now wletter) (now wlow) (now whigh) (now windex) ⌝ }
-    ensures { λ x. ⌜ NextAs (tableOf (columns (now (letter .entry)) (now (low .entry)) (now (high .entry))) used) (startMoment (netCircuit (now (net .entry))) (tableOf (columns (now (letter .entry)) (now (low .entry)) (now (high .entry))) used)) (now (letter .exit)) (now (low .exit)) (now (high .exit)) (now (index .exit)) (x .full) (x .run) ⌝ }
+    ensures { λ x. ⌜ NextAs (held (now (letter .entry)) (now (low .entry)) (now (high .entry)) used) (startMoment (netCircuit (now (net .entry))) (held (now (letter .entry)) (now (low .entry)) (now (high .entry)) used)) (now (letter .exit)) (now (low .exit)) (now (high .exit)) (now (index .exit)) (x .stop) (x .run) ⌝ }
 {
     let v = sources(net, letter, low, high, index, used);
-    if v.full {
-        return no_room();
+    let why = v.stop;
+    if stopped(why) {
+        return nothing(why);
     }
     let count = net[net::NODES] as usize;
     let values = v.entries;
@@ -140,12 +145,13 @@ pub fn step(
     least: &[u32],
 ) -> Next
     requires { ⌜ Laid (netCircuit (now net)) (now net) × Open (atPlace (now net) lettersPlace) (now letter) (now low) (now high) (now index) (r .used) × Sized (now wletter) (now wlow) (now whigh) (now windex) ⌝ }
-    requires { ⌜ (runSound (netCircuit (now net)) (tableOf (columns (now letter) (now low) (now high)) (r .used)) (runOf (netCircuit (now net)) r) ≡ true) × (time ≡ timeAfter (netCircuit (now net)) (momentGiven (columns (now letter) (now low) (now high)) (runOf (netCircuit (now net)) r))) × Leasts (atPlace (now net) lettersPlace) (tableOf (columns (now letter) (now low) (now high)) (r .used)) (r .used) (now least) ⌝ }
-    ensures { λ x. ⌜ NextAs (tableOf (columns (now (letter .entry)) (now (low .entry)) (now (high .entry))) (r .used)) (stepMoment (netCircuit (now (net .entry))) (momentGiven (columns (now (letter .entry)) (now (low .entry)) (now (high .entry))) (runOf (netCircuit (now (net .entry))) r))) (now (letter .exit)) (now (low .exit)) (now (high .exit)) (now (index .exit)) (x .full) (x .run) ⌝ }
+    requires { ⌜ (runSound (netCircuit (now net)) (held (now letter) (now low) (now high) (r .used)) (runOf (netCircuit (now net)) r) ≡ true) × (time ≡ timeAfter (netCircuit (now net)) (momentHeld (now letter) (now low) (now high) (runOf (netCircuit (now net)) r))) × Leasts (atPlace (now net) lettersPlace) (held (now letter) (now low) (now high) (r .used)) (r .used) (now least) ⌝ }
+    ensures { λ x. ⌜ NextAs (held (now (letter .entry)) (now (low .entry)) (now (high .entry)) (r .used)) (stepMoment (netCircuit (now (net .entry))) (momentHeld (now (letter .entry)) (now (low .entry)) (now (high .entry)) (runOf (netCircuit (now (net .entry))) r))) (now (letter .exit)) (now (low .exit)) (now (high .exit)) (now (index .exit)) (x .stop) (x .run) ⌝ }
 {
     let v = arrive(net, letter, low, high, index, r, time, least);
-    if v.full {
-        return no_room();
+    let why = v.stop;
+    if stopped(why) {
+        return nothing(why);
     }
     let count = net[net::NODES] as usize;
     let old = r.values;

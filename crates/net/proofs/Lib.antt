@@ -4,3 +4,4 @@ pub mod Laying
 pub mod Listed
 pub mod Joins
 pub mod Whole
+pub mod Due

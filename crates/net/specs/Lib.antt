@@ -1,3 +1,5 @@
 pub mod Net
 pub mod Laid
 pub mod Written
+pub mod Roots
+pub mod Due

@@ -6,6 +6,9 @@ pub mod inner;
 pub mod labels;
 mod links;
 mod places;
+pub mod quantities;
+pub mod roots;
+pub mod schedule;
 
 use cell::Cell;
 ghost use mathlib.Core.Path.{_≡_};
@@ -23,13 +26,13 @@ pub const ENTRIES: usize = 2;
 
 pub const LETTERS: usize = 3;
 
-pub const HORIZON: usize = 4;
+const HORIZON: usize = 4;
 
 pub const ROLE: usize = 8;
 
 pub const START: usize = 32;
 
-pub const CAPACITANCE: usize = 56;
+const CAPACITANCE: usize = 56;
 
 pub const POLARITY: usize = 80;
 
@@ -39,13 +42,13 @@ pub const FIRST: usize = 208;
 
 pub const SECOND: usize = 272;
 
-pub const RESISTANCE: usize = 336;
+const RESISTANCE: usize = 336;
 
 pub const INPUT: usize = 400;
 
 pub const SOURCE: usize = 464;
 
-pub const TIME: usize = 528;
+const TIME: usize = 528;
 
 pub const DEGREE: usize = 592;
 

@@ -16,7 +16,7 @@ use Rattle.rules.specs.Kept.{Channel, conducts, keeps, afterKept, keptFrom}
 use Rattle.rules.proofs.Label.{IsNode, inner-node, length-join}
 use Rattle.net.specs.Laid.{TransistorWithin}
 use Rattle.net.specs.Written.{Labelled}
-use Rattle.walk.specs.Leaf.{keptBy}
+use Rattle.plain.specs.Leaf.{keptBy}
 use Rattle.plain.specs.Shown.{Column, Shows}
 use Rattle.plain.specs.Leaves.{conductsAt, keepsAt, OneKept, labelsAfter}
 use Rattle.plain.proofs.Values.{value-shown}

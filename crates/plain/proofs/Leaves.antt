@@ -23,8 +23,9 @@ use Rattle.net.specs.Laid.{TransistorWithin}
 use Rattle.net.specs.Written.{OnlyAt, Row, Labelled}
 use Rattle.net.proofs.Only.{only-none, only-then, only-wider, only-set}
 use Rattle.net.proofs.Laying.{transistors-length}
-use Rattle.walk.specs.Leaf.{keptBy, isKept}
-use Rattle.walk.proofs.Arms.{by-ext}
+use Rattle.net.specs.Roots.{leafLength}
+use Rattle.plain.specs.Leaf.{keptBy, isKept}
+use Rattle.plain.proofs.Arms.{by-ext}
 use Rattle.plain.specs.Shown.{Column, Shows}
 use Rattle.plain.specs.Leaves.{keepsAt, OneKept, labelsAfter, KeptTo, KeptLeaf}
 use Rattle.plain.proofs.Flags.{keeps-shown, oneChannel, by-snoc, length-after, after-snoc, kept-snoc}
@@ -123,10 +124,10 @@ module _ (c : Circuit) (values : List ℕ) (k : ℕ) (before leaf next labels af
   }
 
 -- all of them
-pub leaf-kept : (net values first leaf labels : List ℕ) → Row 0 26 (λ (n : ℕ). getD values n 0) (replicate 90 0) first → KeptTo (netCircuit net) values (at net 1) first leaf labels → KeptLeaf net values leaf
+pub leaf-kept : (net values first leaf labels : List ℕ) → Row 0 26 (λ (n : ℕ). getD values n 0) (replicate leafLength 0) first → KeptTo (netCircuit net) values (at net 1) first leaf labels → KeptLeaf net values leaf
 unfolding kept
 leaf-kept net values first leaf labels row all = record {
-  long = all .rest .long ∙ row .rest .long ∙ length-replicate {A = ℕ} 90 0;
+  long = all .rest .long ∙ row .rest .long ∙ length-replicate {A = ℕ} leafLength 0;
   same = λ n h. all .rest .below n h ∙ value n h;
   bits = λ i. ⊎-elim (λ (h : i < at net 1). all .bits i h) (λ (h : at net 1 ≤ i). rw (past i h) (omega arith)) (lt-or-ge i (at net 1));
   none = past;
@@ -139,4 +140,4 @@ leaf-kept net values first leaf labels row all = record {
     value n h = let place : n ≡ 0 + n = omega arith in ap (λ (i : ℕ). getD first i 0) place ∙ row .each n h
 
     past : (i : ℕ) → at net 1 ≤ i → getD leaf (26 + i) 0 ≡ 0
-    past i h = all .rest .above (26 + i) (omega arith) ∙ row .rest .above (26 + i) (omega arith) ∙ replicate-read 90 (26 + i) 0
+    past i h = all .rest .above (26 + i) (omega arith) ∙ row .rest .above (26 + i) (omega arith) ∙ replicate-read leafLength (26 + i) 0

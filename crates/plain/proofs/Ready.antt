@@ -11,9 +11,9 @@ use Rattle.rules.specs.State.{State}
 use Rattle.net.specs.Net.{at, netCircuit}
 use Rattle.net.specs.Laid.{Laid}
 use Rattle.net.proofs.Laying.{nodes-length}
-use Rattle.walk.specs.Leaf.{leafState}
-use Rattle.walk.specs.Ready.{Ranged, Ready}
-use Rattle.walk.proofs.Meet.{kept-ranged}
+use Rattle.plain.specs.Leaf.{leafState}
+use Rattle.plain.specs.Ready.{Ranged, Ready}
+use Rattle.plain.proofs.Meet.{kept-ranged}
 use Rattle.plain.specs.Shown.{Column}
 use Rattle.plain.specs.Leaves.{KeptLeaf}
 

@@ -12,7 +12,8 @@ use Rattle.rules.specs.Group.{Labels, join, betweenInner}
 use Rattle.rules.specs.Kept.{kept, keptFrom, afterKept}
 use Rattle.net.specs.Net.{transistorsPlace, at, netCircuit}
 use Rattle.net.specs.Written.{OnlyAt, Labelled}
-use Rattle.walk.specs.Leaf.{keptPlace, leafLength, keptBy, isKept, leafChannels}
+use Rattle.net.specs.Roots.{keptPlace, leafLength}
+use Rattle.plain.specs.Leaf.{keptBy, isKept, leafChannels}
 use Rattle.plain.specs.Shown.{Shows}
 
 -- the tests, read off a column of values and one of labels

@@ -1,6 +1,9 @@
 // Step rule 3: which transistors are kept, by rising number.
 use net::inner::between_inner;
 use net::labels;
+use net::roots::KEPT;
+use net::roots::LEAF;
+use net::roots::VALUES;
 ghost use mathlib.Core.Path.{_≡_};
 ghost use mathlib.Core.Bool.{_&&_, not, cond};
 ghost use Prim.Native.Nat.{ℕ, _+_, _-_, _<_, _≤_};
@@ -10,10 +13,9 @@ ghost use Rattle.rules.specs.Group.{betweenInner};
 ghost use Rattle.net.specs.Net.{transistorsPlace, netTransistor, netCircuit};
 ghost use Rattle.net.specs.Laid.{Laid};
 ghost use Rattle.net.specs.Written.{Row};
+ghost use Rattle.net.specs.Roots.{leafLength};
 ghost use Rattle.plain.specs.Shown.{Column};
 ghost use Rattle.plain.specs.Leaves.{conductsAt, keepsAt, EndsJoined, OneKept, KeptTo, KeptLeaf};
-
-const VALUES: usize = 26;
 
 fn conducts(net: &[u32], values: &[u32], i: u32) -> bool
     requires { ⌜ Laid (netCircuit (now net)) (now net) ⌝ }
@@ -62,18 +64,18 @@ fn bit(b: bool) -> u32
 
 fn keep_one(net: &[u32], values: &[u32], leaf: &mut [u32], labels: &mut [u32], i: u32)
     requires { ⌜ Laid (netCircuit (now net)) (now net) ⌝ }
-    requires { ⌜ (length (now values) ≡ 26) × (length (now leaf) ≡ 90) × (length (now labels) ≡ 26) × (i < getD (now net) transistorsPlace 0) ⌝ }
+    requires { ⌜ (length (now values) ≡ 26) × (length (now leaf) ≡ leafLength) × (length (now labels) ≡ 26) × (i < getD (now net) transistorsPlace 0) ⌝ }
     ensures { λ r. ⌜ OneKept (netCircuit (now (net .entry))) (now (values .entry)) i (netTransistor (now (net .entry)) i) (now (leaf .entry)) (now (leaf .exit)) (now (labels .entry)) (now (labels .exit)) ⌝ }
 {
     let keep = keeps(net, values, labels, i);
-    leaf[VALUES + i as usize] = bit(keep);
+    leaf[KEPT + i as usize] = bit(keep);
     if keep {
         join_ends(net, labels, i);
     }
 }
 
 fn copy(leaf: &mut [u32], values: &[u32])
-    requires { ⌜ (length (now leaf) ≡ 90) × (length (now values) ≡ 26) ⌝ }
+    requires { ⌜ (length (now leaf) ≡ leafLength) × (length (now values) ≡ 26) ⌝ }
     ensures { λ r. ⌜ Row 0 26 (λ (n : ℕ). getD (now (values .entry)) n 0) (now (leaf .entry)) (now (leaf .exit)) ⌝ }
 {
     let mut n: usize = 0;
@@ -85,7 +87,7 @@ fn copy(leaf: &mut [u32], values: &[u32])
 
 fn keep_all(net: &[u32], values: &[u32], leaf: &mut [u32], labels: &mut [u32])
     requires { ⌜ Laid (netCircuit (now net)) (now net) ⌝ }
-    requires { ⌜ Column (now values) × (length (now leaf) ≡ 90) × (length (now labels) ≡ 26) × ((n : ℕ) → n < 26 → getD (now labels) n 0 ≡ n) ⌝ }
+    requires { ⌜ Column (now values) × (length (now leaf) ≡ leafLength) × (length (now labels) ≡ 26) × ((n : ℕ) → n < 26 → getD (now labels) n 0 ≡ n) ⌝ }
     ensures { λ r. ⌜ KeptTo (netCircuit (now (net .entry))) (now (values .entry)) (getD (now (net .entry)) transistorsPlace 0) (now (leaf .entry)) (now (leaf .exit)) (now (labels .exit)) ⌝ }
 {
     let count = net[net::TRANSISTORS];
@@ -97,12 +99,12 @@ fn keep_all(net: &[u32], values: &[u32], leaf: &mut [u32], labels: &mut [u32])
 }
 
 // The leaf of a pattern's values.
-pub fn kept(net: &[u32], values: &[u32]) -> [u32; 90]
+pub fn kept(net: &[u32], values: &[u32]) -> [u32; LEAF]
     requires { ⌜ Laid (netCircuit (now net)) (now net) ⌝ }
     requires { ⌜ Column (now values) ⌝ }
     ensures { λ r. ⌜ KeptLeaf (now (net .entry)) (now (values .entry)) r ⌝ }
 {
-    let mut leaf = [0u32; 90];
+    let mut leaf = [0u32; LEAF];
     let mut labels = [0u32; 26];
     copy(&mut leaf, values);
     labels::start(&mut labels, 0);

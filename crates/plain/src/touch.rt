@@ -29,7 +29,7 @@ fn input_changed(net: &[u32], before: &[u32], after: &[u32], n: u32) -> bool
 }
 
 // Transistor i has a gate that changed, or an input that changed at a channel end.
-fn disturbed(net: &[u32], before: &[u32], after: &[u32], i: u32) -> bool
+pub fn disturbed(net: &[u32], before: &[u32], after: &[u32], i: u32) -> bool
     requires { ⌜ Laid (netCircuit (now net)) (now net) ⌝ }
     requires { ⌜ (length (now before) ≡ 26) × (length (now after) ≡ 26) × (i < getD (now net) transistorsPlace 0) ⌝ }
     ensures { λ r. ⌜ r ≡ disturbedAt (netCircuit (now (net .entry))) (now (before .entry)) (now (after .entry)) (netTransistor (now (net .entry)) i) ⌝ }

@@ -14,9 +14,8 @@ use Rattle.format.specs.Circuit.{Circuit}
 use Rattle.format.proofs.Legal.{LegalCell}
 use Rattle.diagram.specs.Pattern.{patterns}
 use Rattle.diagram.specs.Table.{Table, numberAt}
-use Rattle.diagram.specs.Call.{tableOf}
+use Rattle.diagram.specs.Held.{held}
 use Rattle.diagram.proofs.Add.{Extends, extends-trans}
-use Rattle.table.specs.Holds.{columns}
 use Rattle.working.specs.Grown.{Means, bit}
 use Rattle.working.specs.Many.{Filled}
 use Rattle.working.proofs.Grow.{open-three}
@@ -31,6 +30,7 @@ use Rattle.rules.proofs.Matrix.{isKept, isHeld, transistorAt, kept-by-labels, L
 use Rattle.net.specs.Net.{at, netCircuit, netGroup}
 use Rattle.net.specs.Laid.{Laid}
 use Rattle.net.proofs.Laying.{nodes-length, transistors-length}
+use Rattle.net.specs.Roots.{touchedPlace, allPendingPlace, allRootsLength}
 use Rattle.prepare.specs.Steps.{Shows, Bits, groupOf, considered, touchedBy, differs, touchedLabel, lookedAt, KeptAll}
 use Rattle.prepare.specs.Roots.{NodeRoots, KeptRoots, Roots}
 use Rattle.prepare.proofs.Reading.{laid-legal, laid-label, laid-least, group-other}
@@ -49,52 +49,52 @@ differs-shown letters nodes t before after p sb sa hb ha n lt = rw (lt-ltb n (2 
 -- the values brought over, in later tables
 module _ {letters : ℕ} (t : Table) {t0 : Table} (after : List ℕ) (count : ℕ) {l1 w1 h1 ix1 : List ℕ} {used1 : ℕ} {values : List ℕ}
     (v : Filled 26 letters t0 (λ m p. cond (ltb m count) (numberAt letters t (getD after m 0) p) 0) l1 w1 h1 ix1 used1 values) where
-  value-in : {u : Table} → Extends (tableOf (columns l1 w1 h1) used1) u → (n p : ℕ) → n < count → n < 26 → p < patterns letters → numberAt letters u (getD values n 0) p ≡ numberAt letters t (getD after n 0) p
+  value-in : {u : Table} → Extends (held l1 w1 h1 used1) u → (n p : ℕ) → n < count → n < 26 → p < patterns letters → numberAt letters u (getD values n 0) p ≡ numberAt letters t (getD after n 0) p
   value-in x n p lt hn hp =
       number-kept (v .opened) x (getD values n 0) p (filled-used v n hn)
       ∙ v .means n hn .number p hp
       ∙ ap (λ (z : Bool). cond z (numberAt letters t (getD after n 0) p) 0) (lt-ltb n count lt)
 
-  module _ {f : ℕ → ℕ → ℕ} {l2 w2 h2 ix2 : List ℕ} {used2 : ℕ} {waiting : List ℕ} (w : Filled 26 letters (tableOf (columns l1 w1 h1) used1) f l2 w2 h2 ix2 used2 waiting) where
+  module _ {f : ℕ → ℕ → ℕ} {l2 w2 h2 ix2 : List ℕ} {used2 : ℕ} {waiting : List ℕ} (w : Filled 26 letters (held l1 w1 h1 used1) f l2 w2 h2 ix2 used2 waiting) where
     -- after the next changes
-    pub values-mean : {nodes : ℕ} → (count ≡ nodes + 2) × (nodes ≤ 24) → (n : ℕ) → n < 2 + nodes → Means letters (tableOf (columns l2 w2 h2) used2) (getD values n 0) (numberAt letters t (getD after n 0))
+    pub values-mean : {nodes : ℕ} → (count ≡ nodes + 2) × (nodes ≤ 24) → (n : ℕ) → n < 2 + nodes → Means letters (held l2 w2 h2 used2) (getD values n 0) (numberAt letters t (getD after n 0))
     values-mean e n lt = record {
       within = omega (arith, w .extends .longer, v .means n (omega (arith, e .0, e .1)) .within);
       number = λ p hp. value-in (w .extends) n p (omega (arith, e .0)) (omega (arith, e .0, e .1)) hp;
     }
 
     -- and after the touched functions
-    pub values-bits : {g : ℕ → ℕ → ℕ} {l3 w3 h3 ix3 : List ℕ} {used3 : ℕ} {marks : List ℕ} (m : Filled 26 letters (tableOf (columns l2 w2 h2) used2) g l3 w3 h3 ix3 used3 marks) {nodes : ℕ} → (count ≡ nodes + 2) × (nodes ≤ 24) → Bits letters t after (2 + nodes)
-        → Bits letters (tableOf (columns l3 w3 h3) used3) values (2 + nodes)
+    pub values-bits : {g : ℕ → ℕ → ℕ} {l3 w3 h3 ix3 : List ℕ} {used3 : ℕ} {marks : List ℕ} (m : Filled 26 letters (held l2 w2 h2 used2) g l3 w3 h3 ix3 used3 marks) {nodes : ℕ} → (count ≡ nodes + 2) × (nodes ≤ 24) → Bits letters t after (2 + nodes)
+        → Bits letters (held l3 w3 h3 used3) values (2 + nodes)
     values-bits m e bits n p lt hp = subst (λ (z : ℕ). z ≤ 1) (sym (value-in (extends-trans (w .extends) (m .extends)) n p (omega (arith, e .0)) (omega (arith, e .0, e .1)) hp)) (bits n p lt hp)
 
 module _ (net : List ℕ) (k : Laid (netCircuit net) net) {letters : ℕ} (t : Table) (before after pending : List ℕ) (all : Bool) (only count : ℕ) (is-count : count ≡ at net 0 + 2)
     {t0 : Table} {l1 w1 h1 ix1 l2 w2 h2 ix2 l3 w3 h3 ix3 l4 w4 h4 ix4 : List ℕ} {used1 used2 used3 used4 : ℕ} {values waiting marks kept nodes roots : List ℕ}
     (v : Filled 26 letters t0 (λ m p. cond (ltb m count) (numberAt letters t (getD after m 0) p) 0) l1 w1 h1 ix1 used1 values)
-    (w : Filled 26 letters (tableOf (columns l1 w1 h1) used1) (λ m p. cond (ltb m count) (numberAt letters t (getD pending m 0) p) 0) l2 w2 h2 ix2 used2 waiting)
-    (m : Filled 26 letters (tableOf (columns l2 w2 h2) used2) (λ g p. bit (touchedLabel (netCircuit net) (2 + at net 0) letters t before after all only p g)) l3 w3 h3 ix3 used3 marks)
-    (q : KeptAll (netCircuit net) (at net 0) letters (tableOf (columns l3 w3 h3) used3) values marks (at net 1) l4 w4 h4 ix4 used4 kept)
+    (w : Filled 26 letters (held l1 w1 h1 used1) (λ m p. cond (ltb m count) (numberAt letters t (getD pending m 0) p) 0) l2 w2 h2 ix2 used2 waiting)
+    (m : Filled 26 letters (held l2 w2 h2 used2) (λ g p. bit (touchedLabel (netCircuit net) (2 + at net 0) letters t before after all only p g)) l3 w3 h3 ix3 used3 marks)
+    (q : KeptAll (netCircuit net) (at net 0) letters (held l3 w3 h3 used3) values marks (at net 1) l4 w4 h4 ix4 used4 kept)
     (a : NodeRoots (netCircuit net) (at net 0) values marks waiting (2 + at net 0) nodes) (b : KeptRoots nodes kept 64 roots) where
   abbrev c : Circuit
   c = netCircuit net
 
   abbrev last : Table
-  last = tableOf (columns l4 w4 h4) used4
+  last = held l4 w4 h4 used4
 
   abbrev third : Table
-  third = tableOf (columns l3 w3 h3) used3
+  third = held l3 w3 h3 used3
 
-  second-on : Extends (tableOf (columns l2 w2 h2) used2) last
+  second-on : Extends (held l2 w2 h2 used2) last
   second-on = extends-trans (m .extends) (q .extends)
 
-  first-on : Extends (tableOf (columns l1 w1 h1) used1) last
+  first-on : Extends (held l1 w1 h1 used1) last
   first-on = extends-trans (w .extends) second-on
 
   -- the values' entries have the numbers of the lent table, in the last two tables
   value-last : (n p : ℕ) → n < 2 + at net 0 → p < patterns letters → numberAt letters last (getD values n 0) p ≡ numberAt letters t (getD after n 0) p
   value-last n p lt hp = value-in t after count v first-on n p (omega arith) (omega arith) hp
 
-  pub value-third : (n p : ℕ) → n < 2 + at net 0 → p < patterns letters → numberAt letters (tableOf (columns l3 w3 h3) used3) (getD values n 0) p ≡ numberAt letters t (getD after n 0) p
+  pub value-third : (n p : ℕ) → n < 2 + at net 0 → p < patterns letters → numberAt letters (held l3 w3 h3 used3) (getD values n 0) p ≡ numberAt letters t (getD after n 0) p
   value-third n p lt hp = value-in t after count v (extends-trans (w .extends) (m .extends)) n p (omega arith) (omega arith) hp
 
   pending-last : (n p : ℕ) → n < 2 + at net 0 → p < patterns letters → numberAt letters last (getD waiting n 0) p ≡ numberAt letters t (getD pending n 0) p
@@ -117,10 +117,10 @@ module _ (net : List ℕ) (k : Laid (netCircuit net) net) {letters : ℕ} (t : T
     least : 2 ≤ g
     least = laid-least net k n lt inner
 
-    touched-root : getD roots (90 + n) 0 ≡ getD marks g 0
-    touched-root = b .above-at (90 + n) (omega arith) ∙ a .touched-at n lt ∙ ap (λ (z : Bool). cond z (getD marks g 0) 0) inner
+    touched-root : getD roots (touchedPlace + n) 0 ≡ getD marks g 0
+    touched-root = b .above-at (touchedPlace + n) (omega arith) ∙ a .touched-at n lt ∙ ap (λ (z : Bool). cond z (getD marks g 0) 0) inner
 
-    mark-number : (p : ℕ) → p < patterns letters → numberAt letters last (getD roots (90 + n) 0) p ≡ bit (touchedLabel c (2 + at net 0) letters t before after all only p g)
+    mark-number : (p : ℕ) → p < patterns letters → numberAt letters last (getD roots (touchedPlace + n) 0) p ≡ bit (touchedLabel c (2 + at net 0) letters t before after all only p g)
     mark-number p hp = ap (λ (e : ℕ). numberAt letters last e p) touched-root ∙ mark-last g p small ∙ m .means g small .number p hp
 
     module _ (so : considered only (netGroup net n) ≡ true) where
@@ -138,11 +138,11 @@ module _ (net : List ℕ) (k : Laid (netCircuit net) net) {letters : ℕ} (t : T
               ∙ touched-rule c (laid-legal net k) only n considered-label sb sa
               ∙ sym (ap (λ (z : Bool). z && touched c sb sa n) inner)
 
-      touched-is : (p : ℕ) (sb sa : State) → p < patterns letters → Shows letters t before (at net 0) p sb → Shows letters t after (at net 0) p sa → numberAt letters last (getD roots (90 + n) 0) p ≡ bit (all || reconsidered c sb sa n)
+      touched-is : (p : ℕ) (sb sa : State) → p < patterns letters → Shows letters t before (at net 0) p sb → Shows letters t after (at net 0) p sa → numberAt letters last (getD roots (touchedPlace + n) 0) p ≡ bit (all || reconsidered c sb sa n)
       touched-is p sb sa hp hb ha = mark-number p hp ∙ ap bit (label-touched p sb sa hb ha)
 
     -- where a group is touched, its transistors are looked at
-    looked : (p : ℕ) → numberAt letters last (getD roots (90 + n) 0) p ≡ 1 → LookedAt c (lookedAt c letters third marks p) n
+    looked : (p : ℕ) → numberAt letters last (getD roots (touchedPlace + n) 0) p ≡ 1 → LookedAt c (lookedAt c letters third marks p) n
     looked p e i hi of =
         ⊎-elim
         (λ (same : g ≡ groupOf c (transistorAt c i)).
@@ -150,7 +150,7 @@ module _ (net : List ℕ) (k : Laid (netCircuit net) net) {letters : ℕ} (t : T
         (λ (ne : g ≡ groupOf c (transistorAt c i) → ⊥). true-false (ofGroup c n (transistorAt c i)) of (group-other c (laid-legal net k) i hi g ne))
         (eq-or-ne g (groupOf c (transistorAt c i)))
 
-    kept-rule : (i p : ℕ) (sa : State) → p < patterns letters → Shows letters t after (at net 0) p sa → numberAt letters last (getD roots (90 + n) 0) p ≡ 1 → i < at net 1 → ofGroup c n (transistorAt c i) ≡ true
+    kept-rule : (i p : ℕ) (sa : State) → p < patterns letters → Shows letters t after (at net 0) p sa → numberAt letters last (getD roots (touchedPlace + n) 0) p ≡ 1 → i < at net 1 → ofGroup c n (transistorAt c i) ≡ true
         → numberAt letters last (getD roots (26 + i) 0) p ≡ bit (isKept c sa i)
     kept-rule i p sa hp ha e hi of =
         ap (λ (z : ℕ). numberAt letters last z p) (b .kept-at i (omega (arith, k .within .transistors)))
@@ -187,7 +187,7 @@ module _ (net : List ℕ) (k : Laid (netCircuit net) net) {letters : ℕ} (t : T
           let lt : u .first < 2 + at net 0 = omega (arith, laid-legal net k .transistor i here .first-is, nodes-length net) in
           let of : ofGroup c (u .first) u ≡ true = or-left (inGroup c (u .first) (u .first)) _ (and-both (isInner c (u .first)) (joined (groups c) (u .first) (u .first)) inner (joined-refl (groups c) (u .first))) in
           let same : groupOf c u ≡ labelAt (groups c) (u .first) = rw inner in
-          let mark : numberAt letters last (getD roots (90 + u .first) 0) p ≡ 1 =
+          let mark : numberAt letters last (getD roots (touchedPlace + u .first) 0) p ≡ 1 =
           ap (λ (z : ℕ). numberAt letters last z p) (touched-root (u .first) lt inner)
           ∙ mark-last (g (u .first) lt inner) p (small (u .first) lt inner)
           ∙ sym (ap (λ (z : ℕ). numberAt letters third (getD marks z 0) p) same)
@@ -198,8 +198,8 @@ module _ (net : List ℕ) (k : Laid (netCircuit net) net) {letters : ℕ} (t : T
       kept-only = ⊎-elim kept-between kept-driven (bool-cases (betweenInner c u))
 
   -- every root is a used entry
-  within : (j : ℕ) → j < 142 → getD roots j 0 < used4
-  within j hj = parts (lt-or-ge j 26) (lt-or-ge j 90) (lt-or-ge j 116)
+  within : (j : ℕ) → j < allRootsLength → getD roots j 0 < used4
+  within j hj = parts (lt-or-ge j 26) (lt-or-ge j touchedPlace) (lt-or-ge j allPendingPlace)
     where
       zero-used : 0 < used4
       zero-used = omega (arith, open-three (q .opened))
@@ -224,37 +224,37 @@ module _ (net : List ℕ) (k : Laid (netCircuit net) net) {letters : ℕ} (t : T
           (λ (h : 2 + at net 0 ≤ j). blank j (a .rest-at j (λ _. h) (λ x y. absurd (omega arith)) (λ x. absurd (omega arith))))
           (lt-or-ge j (2 + at net 0)))
 
-      kept-part : 26 ≤ j → j < 90 → getD roots j 0 < used4
+      kept-part : 26 ≤ j → j < touchedPlace → getD roots j 0 < used4
       kept-part le lt =
           let here : 26 + (j - 26) ≡ j = omega arith in
           subst (λ (z : ℕ). getD roots z 0 < used4) here (subst (λ (z : ℕ). z < used4) (sym (b .kept-at (j - 26) (omega arith))) (q .kept-used (j - 26) (omega arith)))
 
-      touched-part : 90 ≤ j → j < 116 → getD roots j 0 < used4
+      touched-part : touchedPlace ≤ j → j < allPendingPlace → getD roots j 0 < used4
       touched-part le lt =
           subst (λ (z : ℕ). z < used4) (sym (b .above-at j (omega arith)))
           (⊎-elim
-          (λ (h : j < 90 + (2 + at net 0)).
-          let here : 90 + (j - 90) ≡ j = omega arith in
+          (λ (h : j < touchedPlace + (2 + at net 0)).
+          let here : touchedPlace + (j - touchedPlace) ≡ j = omega arith in
           subst (λ (z : ℕ). getD nodes z 0 < used4) here
-          (subst (λ (z : ℕ). z < used4) (sym (a .touched-at (j - 90) (omega arith)))
+          (subst (λ (z : ℕ). z < used4) (sym (a .touched-at (j - touchedPlace) (omega arith)))
           (⊎-elim
-          (λ (e : isInner c (j - 90) ≡ true). subst (λ (z : Bool). cond z (getD marks (labelAt (groups c) (j - 90)) 0) 0 < used4) (sym e) (on3 (filled-used m (labelAt (groups c) (j - 90)) (small (j - 90) (omega arith) e))))
-          (λ (e : isInner c (j - 90) ≡ false). subst (λ (z : Bool). cond z (getD marks (labelAt (groups c) (j - 90)) 0) 0 < used4) (sym e) zero-used)
-          (bool-cases (isInner c (j - 90))))))
-          (λ (h : 90 + (2 + at net 0) ≤ j). blank j (a .rest-at j (λ x. absurd (omega arith)) (λ x y. h) (λ x. absurd (omega arith))))
-          (lt-or-ge j (90 + (2 + at net 0))))
+          (λ (e : isInner c (j - touchedPlace) ≡ true). subst (λ (z : Bool). cond z (getD marks (labelAt (groups c) (j - touchedPlace)) 0) 0 < used4) (sym e) (on3 (filled-used m (labelAt (groups c) (j - touchedPlace)) (small (j - touchedPlace) (omega arith) e))))
+          (λ (e : isInner c (j - touchedPlace) ≡ false). subst (λ (z : Bool). cond z (getD marks (labelAt (groups c) (j - touchedPlace)) 0) 0 < used4) (sym e) zero-used)
+          (bool-cases (isInner c (j - touchedPlace))))))
+          (λ (h : touchedPlace + (2 + at net 0) ≤ j). blank j (a .rest-at j (λ x. absurd (omega arith)) (λ x y. h) (λ x. absurd (omega arith))))
+          (lt-or-ge j (touchedPlace + (2 + at net 0))))
 
-      pending-part : 116 ≤ j → getD roots j 0 < used4
+      pending-part : allPendingPlace ≤ j → getD roots j 0 < used4
       pending-part le =
           subst (λ (z : ℕ). z < used4) (sym (b .above-at j (omega arith)))
           (⊎-elim
-          (λ (h : j < 116 + (2 + at net 0)).
-          let here : 116 + (j - 116) ≡ j = omega arith in
-          subst (λ (z : ℕ). getD nodes z 0 < used4) here (subst (λ (z : ℕ). z < used4) (sym (a .pending-at (j - 116) (omega arith))) (on2 (filled-used w (j - 116) (omega arith)))))
-          (λ (h : 116 + (2 + at net 0) ≤ j). blank j (a .rest-at j (λ x. absurd (omega arith)) (λ x y. absurd (omega arith)) (λ x. h)))
-          (lt-or-ge j (116 + (2 + at net 0))))
+          (λ (h : j < allPendingPlace + (2 + at net 0)).
+          let here : allPendingPlace + (j - allPendingPlace) ≡ j = omega arith in
+          subst (λ (z : ℕ). getD nodes z 0 < used4) here (subst (λ (z : ℕ). z < used4) (sym (a .pending-at (j - allPendingPlace) (omega arith))) (on2 (filled-used w (j - allPendingPlace) (omega arith)))))
+          (λ (h : allPendingPlace + (2 + at net 0) ≤ j). blank j (a .rest-at j (λ x. absurd (omega arith)) (λ x y. absurd (omega arith)) (λ x. h)))
+          (lt-or-ge j (allPendingPlace + (2 + at net 0))))
 
-      parts : (j < 26) ⊎ (26 ≤ j) → (j < 90) ⊎ (90 ≤ j) → (j < 116) ⊎ (116 ≤ j) → getD roots j 0 < used4
+      parts : (j < 26) ⊎ (26 ≤ j) → (j < touchedPlace) ⊎ (touchedPlace ≤ j) → (j < allPendingPlace) ⊎ (allPendingPlace ≤ j) → getD roots j 0 < used4
       parts (inl h) y z = value-part h
       parts (inr h) (inl y) z = kept-part h y
       parts (inr h) (inr y) (inl z) = touched-part y z
@@ -265,7 +265,7 @@ module _ (net : List ℕ) (k : Laid (netCircuit net) net) {letters : ℕ} (t : T
     opened = q .opened;
     within = within;
     value-is = λ n p lt hp. ap (λ (z : ℕ). numberAt letters last z p) (b .below-at n (omega arith) ∙ a .value-at n lt) ∙ value-last n p lt hp;
-    pending-is = λ n p lt hp. ap (λ (z : ℕ). numberAt letters last z p) (b .above-at (116 + n) (omega arith) ∙ a .pending-at n lt) ∙ pending-last n p lt hp;
+    pending-is = λ n p lt hp. ap (λ (z : ℕ). numberAt letters last z p) (b .above-at (allPendingPlace + n) (omega arith) ∙ a .pending-at n lt) ∙ pending-last n p lt hp;
     touched-is = λ n p sb sa lt inner so hp hb ha. touched-is n lt inner so p sb sa hp hb ha;
     kept-is = λ n i p sa lt inner so hp ha e hi of. kept-rule n lt inner i p sa hp ha e hi of;
     kept-only = λ i p sa hp ha hi e. kept-only i p sa hp ha hi e;

@@ -16,11 +16,12 @@ use Rattle.format.specs.declared.Transistor.{Transistor}
 use Rattle.format.specs.Circuit.{Circuit}
 use Rattle.diagram.specs.Pattern.{patterns}
 use Rattle.diagram.specs.Table.{Table, numberAt}
-use Rattle.diagram.specs.Call.{tableOf}
+use Rattle.diagram.specs.Held.{held}
 use Rattle.diagram.proofs.Add.{extends-refl, extends-trans}
 use Rattle.diagram.proofs.Number.{number-zeroth, number-first}
 use Rattle.table.specs.declared.Put.{Put}
-use Rattle.table.specs.Holds.{columns}
+use Rattle.table.specs.declared.Stop.the-variants.{Going as NotStopped}
+use Rattle.table.specs.Stop.{stopped}
 use Rattle.functions.specs.Open.{Open}
 use Rattle.working.specs.Grown.{bit, Grown}
 use Rattle.working.specs.Many.{AllUsed, cell, Matrixed, linkedNumber}
@@ -73,50 +74,50 @@ kept-nowhere polarity between touched gate joined e = rw e (by between (eqb join
 
 module _ {letters : ℕ} {l w h ix : List ℕ} {used : ℕ} (o : Open letters l w h ix used) where
   abbrev n : ℕ → ℕ → ℕ
-  n e p = numberAt letters (tableOf (columns l w h) used) e p
+  n e p = numberAt letters (held l w h used) e p
 
   zero-is : {e : ℕ} → e ≡ 0 → (p : ℕ) → n e p ≡ 0
-  zero-is e p = rw e (number-zeroth (tableOf (columns l w h) used) p (open-few o) (open-sound o))
+  zero-is e p = rw e (number-zeroth (held l w h used) p (open-few o) (open-sound o))
 
   -- a p conducts where its gate is not 1
-  pub conducts-opposite : (polarity v : ℕ) {l1 w1 h1 ix1 : List ℕ} {r : Put} → polarity ≡ 1 → Grown letters (tableOf (columns l w h) used) (λ p. cond (eqb (numberAt letters (tableOf (columns l w h) used) v p) 1) 0 1) l1 w1 h1 ix1 r
-      → Grown letters (tableOf (columns l w h) used) (λ p. conductsNumber polarity (numberAt letters (tableOf (columns l w h) used) v p)) l1 w1 h1 ix1 r
+  pub conducts-opposite : (polarity v : ℕ) {l1 w1 h1 ix1 : List ℕ} {r : Put} → polarity ≡ 1 → Grown letters (held l w h used) (λ p. cond (eqb (numberAt letters (held l w h used) v p) 1) 0 1) l1 w1 h1 ix1 r
+      → Grown letters (held l w h used) (λ p. conductsNumber polarity (numberAt letters (held l w h used) v p)) l1 w1 h1 ix1 r
   conducts-opposite polarity v e g = grown-same g (λ p _. rw e)
 
   -- an n where it is
-  pub conducts-same : (polarity v : ℕ) → (polarity ≡ 1 → ⊥) → v < used → Grown letters (tableOf (columns l w h) used) (λ p. conductsNumber polarity (numberAt letters (tableOf (columns l w h) used) v p)) l w h ix (record { full = false; entry = v; used = used })
+  pub conducts-same : (polarity v : ℕ) → (polarity ≡ 1 → ⊥) → v < used → Grown letters (held l w h used) (λ p. conductsNumber polarity (numberAt letters (held l w h used) v p)) l w h ix (record { stop = NotStopped; entry = v; used = used })
   conducts-same polarity v ne lt = grown-same (grown-there o (means-own o lt)) (λ p _. sym (ap (λ (b : Bool). cond b (cond (eqb (n v p) 1) 0 1) (n v p)) (ne-eqb polarity 1 ne)))
 
   -- kept nowhere
   pub keep-nowhere : (polarity : ℕ) (between : Bool) (e v j : ℕ) → e ≡ 0
-      → Grown letters (tableOf (columns l w h) used) (λ p. keptNumber polarity between (numberAt letters (tableOf (columns l w h) used) e p) (numberAt letters (tableOf (columns l w h) used) v p) (numberAt letters (tableOf (columns l w h) used) j p)) l w h ix (record { full = false; entry = 0; used = used })
+      → Grown letters (held l w h used) (λ p. keptNumber polarity between (numberAt letters (held l w h used) e p) (numberAt letters (held l w h used) v p) (numberAt letters (held l w h used) j p)) l w h ix (record { stop = NotStopped; entry = 0; used = used })
   keep-nowhere polarity between e v j z =
       grown-same (grown-there o (means-zero o)) (λ p _. sym (kept-nowhere polarity between (n e p) (n v p) (n j p) (zero-is z p)))
 
   -- touched and conducting
   module _ (polarity e v j : ℕ) (between : Bool) (he : e < used) {l1 w1 h1 ix1 l2 w2 h2 ix2 : List ℕ} {p q : Put}
-      (g : Grown letters (tableOf (columns l w h) used) (λ x. conductsNumber polarity (numberAt letters (tableOf (columns l w h) used) v x)) l1 w1 h1 ix1 p) (room : p .full ≡ false)
-      (s : Grown letters (tableOf (columns l1 w1 h1) (p .used)) (λ x. cond (eqb (numberAt letters (tableOf (columns l1 w1 h1) (p .used)) e x) 1) (numberAt letters (tableOf (columns l1 w1 h1) (p .used)) (p .entry) x) 0) l2 w2 h2 ix2 q) where
-    touched-grown : Grown letters (tableOf (columns l w h) used) (λ x. cond (eqb (numberAt letters (tableOf (columns l w h) used) e x) 1) (conductsNumber polarity (numberAt letters (tableOf (columns l w h) used) v x)) 0) l2 w2 h2 ix2 q
+      (g : Grown letters (held l w h used) (λ x. conductsNumber polarity (numberAt letters (held l w h used) v x)) l1 w1 h1 ix1 p) (room : stopped (p .stop) ≡ false)
+      (s : Grown letters (held l1 w1 h1 (p .used)) (λ x. cond (eqb (numberAt letters (held l1 w1 h1 (p .used)) e x) 1) (numberAt letters (held l1 w1 h1 (p .used)) (p .entry) x) 0) l2 w2 h2 ix2 q) where
+    touched-grown : Grown letters (held l w h used) (λ x. cond (eqb (numberAt letters (held l w h used) e x) 1) (conductsNumber polarity (numberAt letters (held l w h used) v x)) 0) l2 w2 h2 ix2 q
     touched-grown = grown-then g room (grown-same s (λ x hx. rw (grown-number o g room e x he, g .means room .number x hx)))
 
     -- with a driven end that is all
     pub keep-driven : between ≡ false
-        → Grown letters (tableOf (columns l w h) used) (λ x. keptNumber polarity between (numberAt letters (tableOf (columns l w h) used) e x) (numberAt letters (tableOf (columns l w h) used) v x) (numberAt letters (tableOf (columns l w h) used) j x)) l2 w2 h2 ix2 q
+        → Grown letters (held l w h used) (λ x. keptNumber polarity between (numberAt letters (held l w h used) e x) (numberAt letters (held l w h used) v x) (numberAt letters (held l w h used) j x)) l2 w2 h2 ix2 q
     keep-driven b = grown-same touched-grown (λ x hx. sym (ap (λ (a : Bool). cond a (cond (eqb (n j x) 1) 0 (cond (eqb (n e x) 1) (conductsNumber polarity (n v x)) 0)) (cond (eqb (n e x) 1) (conductsNumber polarity (n v x)) 0)) b))
 
     -- between inner nodes, not where they are joined
-    pub keep-between : {l3 w3 h3 ix3 : List ℕ} {r : Put} → between ≡ true → j < used → q .full ≡ false
-        → Grown letters (tableOf (columns l2 w2 h2) (q .used)) (λ x. cond (eqb (numberAt letters (tableOf (columns l2 w2 h2) (q .used)) j x) 1) 0 (numberAt letters (tableOf (columns l2 w2 h2) (q .used)) (q .entry) x)) l3 w3 h3 ix3 r
-        → Grown letters (tableOf (columns l w h) used) (λ x. keptNumber polarity between (numberAt letters (tableOf (columns l w h) used) e x) (numberAt letters (tableOf (columns l w h) used) v x) (numberAt letters (tableOf (columns l w h) used) j x)) l3 w3 h3 ix3 r
+    pub keep-between : {l3 w3 h3 ix3 : List ℕ} {r : Put} → between ≡ true → j < used → stopped (q .stop) ≡ false
+        → Grown letters (held l2 w2 h2 (q .used)) (λ x. cond (eqb (numberAt letters (held l2 w2 h2 (q .used)) j x) 1) 0 (numberAt letters (held l2 w2 h2 (q .used)) (q .entry) x)) l3 w3 h3 ix3 r
+        → Grown letters (held l w h used) (λ x. keptNumber polarity between (numberAt letters (held l w h used) e x) (numberAt letters (held l w h used) v x) (numberAt letters (held l w h used) j x)) l3 w3 h3 ix3 r
     keep-between b hj rest u =
         grown-then touched-grown rest
         (grown-same u (λ x hx. rw (grown-number o touched-grown rest j x hj, touched-grown .means rest .number x hx)
         (sym (ap (λ (a : Bool). cond a (cond (eqb (n j x) 1) 0 (cond (eqb (n e x) 1) (conductsNumber polarity (n v x)) 0)) (cond (eqb (n e x) 1) (conductsNumber polarity (n v x)) 0)) b))))
 
   -- a matrix that stays
-  pub matrix-stays : (joined : List (List ℕ)) (f : ℕ → ℕ → ℕ → ℕ) → ((x y : ℕ) → x < 24 → y < 24 → cell joined x y < used) → ((x y p : ℕ) → numberAt letters (tableOf (columns l w h) used) (cell joined x y) p ≡ f x y p)
-      → Matrixed letters (tableOf (columns l w h) used) f l w h ix used joined
+  pub matrix-stays : (joined : List (List ℕ)) (f : ℕ → ℕ → ℕ → ℕ) → ((x y : ℕ) → x < 24 → y < 24 → cell joined x y < used) → ((x y p : ℕ) → numberAt letters (held l w h used) (cell joined x y) p ≡ f x y p)
+      → Matrixed letters (held l w h used) f l w h ix used joined
   matrix-stays joined f hj same = record {
     opened = o;
     extends = extends-refl _;
@@ -126,9 +127,9 @@ module _ {letters : ℕ} {l w h ix : List ℕ} {used : ℕ} (o : Open letters l 
 -- the matrix after one transistor, in three cases
 module _ {letters : ℕ} {l w h ix : List ℕ} {used : ℕ} (o : Open letters l w h ix used) (between : Bool) (kept a b : ℕ) (joined : List (List ℕ)) (hj : (x y : ℕ) → x < 24 → y < 24 → cell joined x y < used) where
   abbrev number : ℕ → ℕ → ℕ
-  number e p = numberAt letters (tableOf (columns l w h) used) e p
+  number e p = numberAt letters (held l w h used) e p
 
-  pub link-nowhere : kept ≡ 0 → Matrixed letters (tableOf (columns l w h) used) (λ x y p. cond between (linkedNumber (numberAt letters (tableOf (columns l w h) used) kept p) (numberAt letters (tableOf (columns l w h) used) (cell joined x y) p) (numberAt letters (tableOf (columns l w h) used) (cell joined x a) p) (numberAt letters (tableOf (columns l w h) used) (cell joined b y) p) (numberAt letters (tableOf (columns l w h) used) (cell joined x b) p) (numberAt letters (tableOf (columns l w h) used) (cell joined a y) p)) (numberAt letters (tableOf (columns l w h) used) (cell joined x y) p)) l w h ix used joined
+  pub link-nowhere : kept ≡ 0 → Matrixed letters (held l w h used) (λ x y p. cond between (linkedNumber (numberAt letters (held l w h used) kept p) (numberAt letters (held l w h used) (cell joined x y) p) (numberAt letters (held l w h used) (cell joined x a) p) (numberAt letters (held l w h used) (cell joined b y) p) (numberAt letters (held l w h used) (cell joined x b) p) (numberAt letters (held l w h used) (cell joined a y) p)) (numberAt letters (held l w h used) (cell joined x y) p)) l w h ix used joined
   link-nowhere e = matrix-stays o joined _ hj (λ x y p.
       by between (number (cell joined x y) p) _ (sym (linked-none (number kept p) (number (cell joined x y) p) (number (cell joined x a) p) (number (cell joined b y) p) (number (cell joined x b) p) (number (cell joined a y) p) (zero-is o e p))))
     where
@@ -136,7 +137,7 @@ module _ {letters : ℕ} {l w h ix : List ℕ} {used : ℕ} (o : Open letters l 
       by true u v e = e
       by false u v e = refl
 
-  pub link-driven : between ≡ false → Matrixed letters (tableOf (columns l w h) used) (λ x y p. cond between (linkedNumber (numberAt letters (tableOf (columns l w h) used) kept p) (numberAt letters (tableOf (columns l w h) used) (cell joined x y) p) (numberAt letters (tableOf (columns l w h) used) (cell joined x a) p) (numberAt letters (tableOf (columns l w h) used) (cell joined b y) p) (numberAt letters (tableOf (columns l w h) used) (cell joined x b) p) (numberAt letters (tableOf (columns l w h) used) (cell joined a y) p)) (numberAt letters (tableOf (columns l w h) used) (cell joined x y) p)) l w h ix used joined
+  pub link-driven : between ≡ false → Matrixed letters (held l w h used) (λ x y p. cond between (linkedNumber (numberAt letters (held l w h used) kept p) (numberAt letters (held l w h used) (cell joined x y) p) (numberAt letters (held l w h used) (cell joined x a) p) (numberAt letters (held l w h used) (cell joined b y) p) (numberAt letters (held l w h used) (cell joined x b) p) (numberAt letters (held l w h used) (cell joined a y) p)) (numberAt letters (held l w h used) (cell joined x y) p)) l w h ix used joined
   link-driven e = matrix-stays o joined _ hj (λ x y p. sym (ap (λ (c : Bool). cond c (linkedNumber (number kept p) (number (cell joined x y) p) (number (cell joined x a) p) (number (cell joined b y) p) (number (cell joined x b) p) (number (cell joined a y) p)) (number (cell joined x y) p)) e))
 
 pub link-between : {letters : ℕ} {t : Table} {l2 w2 h2 ix2 : List ℕ} {used2 : ℕ} {out : List (List ℕ)} (between : Bool) (kept a b : ℕ) (joined : List (List ℕ)) → between ≡ true
@@ -175,19 +176,19 @@ matrix-suc c z looked i a b = rw (add-one i)
 
 -- one transistor: its kept function, and the matrix after it
 module _ {c : Circuit} {nodes letters : ℕ} {l0 w0 h0 ix0 : List ℕ} {used0 : ℕ} {values touched : List ℕ} {i : ℕ} {l w h ix : List ℕ} {used : ℕ} {out : List ℕ} {joined : List (List ℕ)}
-    (o : Open letters l0 w0 h0 ix0 used0) (hv : AllUsed 26 values used0) (ht : AllUsed 26 touched used0) (bits : Bits letters (tableOf (columns l0 w0 h0) used0) values (2 + nodes)) (few : nodes ≤ 24)
-    (s : Keeping c nodes letters (tableOf (columns l0 w0 h0) used0) values touched i l w h ix used out joined)
+    (o : Open letters l0 w0 h0 ix0 used0) (hv : AllUsed 26 values used0) (ht : AllUsed 26 touched used0) (bits : Bits letters (held l0 w0 h0 used0) values (2 + nodes)) (few : nodes ≤ 24)
+    (s : Keeping c nodes letters (held l0 w0 h0 used0) values touched i l w h ix used out joined)
     (t : Transistor) (te : transistorAt c i ≡ t) (legal : Legal c nodes t) (small : groupOf c t < 26)
     {l1 w1 h1 ix1 : List ℕ} {p : Put}
-    (g : Grown letters (tableOf (columns l w h) used) (λ x. keptNumber (t .polarity) (betweenInner c t) (numberAt letters (tableOf (columns l w h) used) (getD touched (groupOf c t) 0) x) (numberAt letters (tableOf (columns l w h) used) (getD values (t .gate) 0) x) (numberAt letters (tableOf (columns l w h) used) (cell joined (t .first - 2) (t .second - 2)) x)) l1 w1 h1 ix1 p) (room : p .full ≡ false) where
+    (g : Grown letters (held l w h used) (λ x. keptNumber (t .polarity) (betweenInner c t) (numberAt letters (held l w h used) (getD touched (groupOf c t) 0) x) (numberAt letters (held l w h used) (getD values (t .gate) 0) x) (numberAt letters (held l w h used) (cell joined (t .first - 2) (t .second - 2)) x)) l1 w1 h1 ix1 p) (room : stopped (p .stop) ≡ false) where
   abbrev t0 : Table
-  t0 = tableOf (columns l0 w0 h0) used0
+  t0 = held l0 w0 h0 used0
 
   abbrev now : Table
-  now = tableOf (columns l w h) used
+  now = held l w h used
 
   abbrev then : Table
-  then = tableOf (columns l1 w1 h1) (p .used)
+  then = held l1 w1 h1 (p .used)
 
   module _ (x : ℕ) (z : State) (hx : x < patterns letters) (shows : Shows letters t0 values nodes x z) where
     abbrev j : ℕ → ℕ → Bool
@@ -221,9 +222,9 @@ module _ {c : Circuit} {nodes letters : ℕ} {l0 w0 h0 ix0 : List ℕ} {used0 : 
         ∙ ap bit (sym held-is)
 
   module _ {l2 w2 h2 ix2 : List ℕ} {used2 : ℕ} {next : List (List ℕ)}
-      (m : Matrixed letters (tableOf (columns l1 w1 h1) (p .used)) (λ a b x. cond (betweenInner c t) (linkedNumber (numberAt letters (tableOf (columns l1 w1 h1) (p .used)) (p .entry) x) (numberAt letters (tableOf (columns l1 w1 h1) (p .used)) (cell joined a b) x) (numberAt letters (tableOf (columns l1 w1 h1) (p .used)) (cell joined a (t .first - 2)) x) (numberAt letters (tableOf (columns l1 w1 h1) (p .used)) (cell joined (t .second - 2) b) x) (numberAt letters (tableOf (columns l1 w1 h1) (p .used)) (cell joined a (t .second - 2)) x) (numberAt letters (tableOf (columns l1 w1 h1) (p .used)) (cell joined (t .first - 2) b) x)) (numberAt letters (tableOf (columns l1 w1 h1) (p .used)) (cell joined a b) x)) l2 w2 h2 ix2 used2 next) where
+      (m : Matrixed letters (held l1 w1 h1 (p .used)) (λ a b x. cond (betweenInner c t) (linkedNumber (numberAt letters (held l1 w1 h1 (p .used)) (p .entry) x) (numberAt letters (held l1 w1 h1 (p .used)) (cell joined a b) x) (numberAt letters (held l1 w1 h1 (p .used)) (cell joined a (t .first - 2)) x) (numberAt letters (held l1 w1 h1 (p .used)) (cell joined (t .second - 2) b) x) (numberAt letters (held l1 w1 h1 (p .used)) (cell joined a (t .second - 2)) x) (numberAt letters (held l1 w1 h1 (p .used)) (cell joined (t .first - 2) b) x)) (numberAt letters (held l1 w1 h1 (p .used)) (cell joined a b) x)) l2 w2 h2 ix2 used2 next) where
     abbrev after : Table
-    after = tableOf (columns l2 w2 h2) used2
+    after = held l2 w2 h2 used2
 
     o1 : Open letters l1 w1 h1 ix1 (p .used)
     o1 = g .opened room
@@ -261,7 +262,7 @@ module _ {c : Circuit} {nodes letters : ℕ} {l0 w0 h0 ix0 : List ℕ} {used0 : 
           ∙ ap bit (sym (matrix-suc c z look i (a + 2) (b + 2) ∙ ap (λ (u : Transistor). linked (isHeld c z look i && betweenInner c u) (u .first) (u .second) (matrixAt c z look i) (a + 2) (b + 2)) te))
 
     -- one transistor more
-    pub keeping-next : length out ≡ 64 → i < 64 → Keeping c nodes letters (tableOf (columns l0 w0 h0) used0) values touched (i + 1) l2 w2 h2 ix2 used2 (set out i (p .entry)) next
+    pub keeping-next : length out ≡ 64 → i < 64 → Keeping c nodes letters (held l0 w0 h0 used0) values touched (i + 1) l2 w2 h2 ix2 used2 (set out i (p .entry)) next
     keeping-next long hi = record {
       opened = m .opened;
       extends = extends-trans (extends-trans (s .extends) (g .extends room)) (m .extends);
@@ -290,7 +291,7 @@ eqb-shift x y =
 
 -- before the first transistor
 pub keeping-first : {c : Circuit} {nodes letters : ℕ} {l w h ix : List ℕ} {used : ℕ} {values touched : List ℕ} {out : List ℕ} {joined : List (List ℕ)} → Open letters l w h ix used
-    → ((i : ℕ) → i < 64 → getD out i 0 ≡ 0) → ((x y : ℕ) → x < 24 → y < 24 → cell joined x y ≡ bit (eqb x y)) → Keeping c nodes letters (tableOf (columns l w h) used) values touched 0 l w h ix used out joined
+    → ((i : ℕ) → i < 64 → getD out i 0 ≡ 0) → ((x y : ℕ) → x < 24 → y < 24 → cell joined x y ≡ bit (eqb x y)) → Keeping c nodes letters (held l w h used) values touched 0 l w h ix used out joined
 unfolding matrixAt
 keeping-first {c} {nodes} {letters} {l} {w} {h} {ix} {used} {values} {touched} {out} {joined} o zeros first = record {
   opened = o;
@@ -301,9 +302,9 @@ keeping-first {c} {nodes} {letters} {l} {w} {h} {ix} {used} {values} {touched} {
   joined-is = λ x y p s hx hy hp shows. rw (first x y hx hy) (number-bit p (eqb x y)) ∙ ap bit (eqb-shift x y);
 }
   where
-    number-bit : (p : ℕ) (b : Bool) → numberAt letters (tableOf (columns l w h) used) (bit b) p ≡ bit b
-    number-bit p true = number-first (tableOf (columns l w h) used) p (open-few o) (open-sound o)
-    number-bit p false = number-zeroth (tableOf (columns l w h) used) p (open-few o) (open-sound o)
+    number-bit : (p : ℕ) (b : Bool) → numberAt letters (held l w h used) (bit b) p ≡ bit b
+    number-bit p true = number-first (held l w h used) p (open-few o) (open-sound o)
+    number-bit p false = number-zeroth (held l w h used) p (open-few o) (open-sound o)
 
 -- after the last
 pub keeping-done : {c : Circuit} {nodes letters : ℕ} {t : Table} {values touched : List ℕ} {i count : ℕ} {l w h ix : List ℕ} {used : ℕ} {out : List ℕ} {joined : List (List ℕ)} → Keeping c nodes letters t values touched i l w h ix used out joined → count ≤ i
@@ -321,7 +322,7 @@ pub record Going (c : Circuit) (nodes letters : ℕ) (t : Table) (values touched
   pub keeping : Keeping c nodes letters t values touched i l w h ix used out joined
 
 pub going-first : {c : Circuit} {nodes letters : ℕ} {l w h ix : List ℕ} {used : ℕ} {values touched : List ℕ} {count : ℕ} {out : List ℕ} {joined : List (List ℕ)} → Open letters l w h ix used → length out ≡ 64
-    → ((i : ℕ) → i < 64 → getD out i 0 ≡ 0) → ((x y : ℕ) → x < 24 → y < 24 → cell joined x y ≡ bit (eqb x y)) → Going c nodes letters (tableOf (columns l w h) used) values touched count l w h ix l w h ix used out joined 0
+    → ((i : ℕ) → i < 64 → getD out i 0 ≡ 0) → ((x y : ℕ) → x < 24 → y < 24 → cell joined x y ≡ bit (eqb x y)) → Going c nodes letters (held l w h used) values touched count l w h ix l w h ix used out joined 0
 going-first o long zeros first = record {
   few = omega arith;
   long = long;
@@ -358,14 +359,14 @@ module _ (net : List ℕ) (k : Laid (netCircuit net) net) (i : ℕ) (h : i < at 
       by false ea false eb = subst (λ (z : ℕ). z < 26) (laid-no-group net k i h ea eb) (omega arith)
 
 pub going-next : {c : Circuit} {nodes letters : ℕ} {l0 w0 h0 ix0 : List ℕ} {used0 : ℕ} {values touched : List ℕ} {count i : ℕ} {l w h ix : List ℕ} {used : ℕ} {out : List ℕ} {joined : List (List ℕ)}
-    (o : Open letters l0 w0 h0 ix0 used0) (hv : AllUsed 26 values used0) (ht : AllUsed 26 touched used0) (bits : Bits letters (tableOf (columns l0 w0 h0) used0) values (2 + nodes)) (few : nodes ≤ 24)
-    (s : Going c nodes letters (tableOf (columns l0 w0 h0) used0) values touched count l0 w0 h0 ix0 l w h ix used out joined i)
+    (o : Open letters l0 w0 h0 ix0 used0) (hv : AllUsed 26 values used0) (ht : AllUsed 26 touched used0) (bits : Bits letters (held l0 w0 h0 used0) values (2 + nodes)) (few : nodes ≤ 24)
+    (s : Going c nodes letters (held l0 w0 h0 used0) values touched count l0 w0 h0 ix0 l w h ix used out joined i)
     (t : Transistor) (te : transistorAt c i ≡ t) (legal : Legal c nodes t) (small : groupOf c t < 26) {l1 w1 h1 ix1 : List ℕ} {p : Put}
-    (g : Grown letters (tableOf (columns l w h) used) (λ x. keptNumber (t .polarity) (betweenInner c t) (numberAt letters (tableOf (columns l w h) used) (getD touched (groupOf c t) 0) x) (numberAt letters (tableOf (columns l w h) used) (getD values (t .gate) 0) x) (numberAt letters (tableOf (columns l w h) used) (cell joined (t .first - 2) (t .second - 2)) x)) l1 w1 h1 ix1 p) (room : p .full ≡ false)
+    (g : Grown letters (held l w h used) (λ x. keptNumber (t .polarity) (betweenInner c t) (numberAt letters (held l w h used) (getD touched (groupOf c t) 0) x) (numberAt letters (held l w h used) (getD values (t .gate) 0) x) (numberAt letters (held l w h used) (cell joined (t .first - 2) (t .second - 2)) x)) l1 w1 h1 ix1 p) (room : stopped (p .stop) ≡ false)
     {l2 w2 h2 ix2 : List ℕ} {used2 : ℕ} {next : List (List ℕ)}
-    (m : Matrixed letters (tableOf (columns l1 w1 h1) (p .used)) (λ a b x. cond (betweenInner c t) (linkedNumber (numberAt letters (tableOf (columns l1 w1 h1) (p .used)) (p .entry) x) (numberAt letters (tableOf (columns l1 w1 h1) (p .used)) (cell joined a b) x) (numberAt letters (tableOf (columns l1 w1 h1) (p .used)) (cell joined a (t .first - 2)) x) (numberAt letters (tableOf (columns l1 w1 h1) (p .used)) (cell joined (t .second - 2) b) x) (numberAt letters (tableOf (columns l1 w1 h1) (p .used)) (cell joined a (t .second - 2)) x) (numberAt letters (tableOf (columns l1 w1 h1) (p .used)) (cell joined (t .first - 2) b) x)) (numberAt letters (tableOf (columns l1 w1 h1) (p .used)) (cell joined a b) x)) l2 w2 h2 ix2 used2 next)
+    (m : Matrixed letters (held l1 w1 h1 (p .used)) (λ a b x. cond (betweenInner c t) (linkedNumber (numberAt letters (held l1 w1 h1 (p .used)) (p .entry) x) (numberAt letters (held l1 w1 h1 (p .used)) (cell joined a b) x) (numberAt letters (held l1 w1 h1 (p .used)) (cell joined a (t .first - 2)) x) (numberAt letters (held l1 w1 h1 (p .used)) (cell joined (t .second - 2) b) x) (numberAt letters (held l1 w1 h1 (p .used)) (cell joined a (t .second - 2)) x) (numberAt letters (held l1 w1 h1 (p .used)) (cell joined (t .first - 2) b) x)) (numberAt letters (held l1 w1 h1 (p .used)) (cell joined a b) x)) l2 w2 h2 ix2 used2 next)
     → i < count → i < 64 → length l2 ≡ length l → length w2 ≡ length w → length h2 ≡ length h → length ix2 ≡ length ix
-    → Going c nodes letters (tableOf (columns l0 w0 h0) used0) values touched count l0 w0 h0 ix0 l2 w2 h2 ix2 used2 (set out i (p .entry)) next (i + 1)
+    → Going c nodes letters (held l0 w0 h0 used0) values touched count l0 w0 h0 ix0 l2 w2 h2 ix2 used2 (set out i (p .entry)) next (i + 1)
 going-next {i = i} {out = out} o hv ht bits few s t te legal small {p = p} g room m lt hi a b c d = record {
   few = omega arith;
   long = length-set out i (p .entry) ∙ s .long;

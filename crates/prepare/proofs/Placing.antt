@@ -11,6 +11,7 @@ use Rattle.lists.proofs.Cases.{eq-or-ne, lt-or-ge}
 use Rattle.format.specs.Circuit.{Circuit}
 use Rattle.rules.specs.State.{isInner}
 use Rattle.rules.specs.Group.{labelAt, groups}
+use Rattle.net.specs.Roots.{touchedPlace, allPendingPlace, allRootsLength}
 use Rattle.prepare.specs.Roots.{NodeRoots, KeptRoots}
 
 -- three places written
@@ -34,10 +35,10 @@ zeros-at n j = ⊎-elim (λ (h : j < n). getD-replicate {A = ℕ} n j 0 0 h) (λ
 -- a loop over the nodes
 pub record Placing (c : Circuit) (nodes : ℕ) (values touched waiting : List ℕ) (count n : ℕ) (roots : List ℕ) : Type 0 where
   pub few : n ≤ count
-  pub long : length roots ≡ 142
+  pub long : length roots ≡ allRootsLength
   pub placed : NodeRoots c nodes values touched waiting n roots
 
-pub placing-first : {c : Circuit} {nodes : ℕ} {values touched waiting : List ℕ} {count : ℕ} {roots : List ℕ} → length roots ≡ 142 → ((j : ℕ) → getD roots j 0 ≡ 0) → Placing c nodes values touched waiting count 0 roots
+pub placing-first : {c : Circuit} {nodes : ℕ} {values touched waiting : List ℕ} {count : ℕ} {roots : List ℕ} → length roots ≡ allRootsLength → ((j : ℕ) → getD roots j 0 ≡ 0) → Placing c nodes values touched waiting count 0 roots
 placing-first long zeros = record {
   few = omega arith;
   long = long;
@@ -45,28 +46,28 @@ placing-first long zeros = record {
 }
 
 pub placing-next : {c : Circuit} {nodes : ℕ} {values touched waiting : List ℕ} {count n : ℕ} {roots : List ℕ} {e : ℕ} → Placing c nodes values touched waiting count n roots → n < count → count ≤ 26 → e ≡ cond (isInner c n) (getD touched (labelAt (groups c) n) 0) 0
-    → Placing c nodes values touched waiting count (n + 1) (set (set (set roots n (getD values n 0)) (90 + n) e) (116 + n) (getD waiting n 0))
+    → Placing c nodes values touched waiting count (n + 1) (set (set (set roots n (getD values n 0)) (touchedPlace + n) e) (allPendingPlace + n) (getD waiting n 0))
 placing-next {c} {nodes} {values} {touched} {waiting} {count} {n} {roots} {e} s lt le same = record {
   few = omega arith;
   long = simp length-set (s .long);
   placed = record {
     value-at = λ m hm.
         ⊎-elim
-        (λ (q : m ≡ n). rw q (three-first roots n (90 + n) (116 + n) _ _ _ (omega (arith, s .long)) (λ r. omega arith) (λ r. omega arith)))
-        (λ (ne : m ≡ n → ⊥). three-rest roots n (90 + n) (116 + n) _ _ _ m ne (λ r. omega arith) (λ r. omega arith) ∙ s .placed .value-at m (omega (arith, ne)))
+        (λ (q : m ≡ n). rw q (three-first roots n (touchedPlace + n) (allPendingPlace + n) _ _ _ (omega (arith, s .long)) (λ r. omega arith) (λ r. omega arith)))
+        (λ (ne : m ≡ n → ⊥). three-rest roots n (touchedPlace + n) (allPendingPlace + n) _ _ _ m ne (λ r. omega arith) (λ r. omega arith) ∙ s .placed .value-at m (omega (arith, ne)))
         (eq-or-ne m n);
     touched-at = λ m hm.
         ⊎-elim
-        (λ (q : m ≡ n). rw q (three-second roots n (90 + n) (116 + n) _ _ _ (omega (arith, s .long)) (λ r. omega arith) ∙ same))
-        (λ (ne : m ≡ n → ⊥). three-rest roots n (90 + n) (116 + n) _ _ _ (90 + m) (λ r. omega arith) (λ r. ne (omega arith)) (λ r. omega arith) ∙ s .placed .touched-at m (omega (arith, ne)))
+        (λ (q : m ≡ n). rw q (three-second roots n (touchedPlace + n) (allPendingPlace + n) _ _ _ (omega (arith, s .long)) (λ r. omega arith) ∙ same))
+        (λ (ne : m ≡ n → ⊥). three-rest roots n (touchedPlace + n) (allPendingPlace + n) _ _ _ (touchedPlace + m) (λ r. omega arith) (λ r. ne (omega arith)) (λ r. omega arith) ∙ s .placed .touched-at m (omega (arith, ne)))
         (eq-or-ne m n);
     pending-at = λ m hm.
         ⊎-elim
-        (λ (q : m ≡ n). rw q (three-third roots n (90 + n) (116 + n) _ _ _ (omega (arith, s .long))))
-        (λ (ne : m ≡ n → ⊥). three-rest roots n (90 + n) (116 + n) _ _ _ (116 + m) (λ r. omega arith) (λ r. omega arith) (λ r. ne (omega arith)) ∙ s .placed .pending-at m (omega (arith, ne)))
+        (λ (q : m ≡ n). rw q (three-third roots n (touchedPlace + n) (allPendingPlace + n) _ _ _ (omega (arith, s .long))))
+        (λ (ne : m ≡ n → ⊥). three-rest roots n (touchedPlace + n) (allPendingPlace + n) _ _ _ (allPendingPlace + m) (λ r. omega arith) (λ r. omega arith) (λ r. ne (omega arith)) ∙ s .placed .pending-at m (omega (arith, ne)))
         (eq-or-ne m n);
     rest-at = λ j p q r.
-        three-rest roots n (90 + n) (116 + n) _ _ _ j (λ z. absurd (omega (arith, p (omega arith)))) (λ z. absurd (omega (arith, q (omega arith) (omega arith)))) (λ z. absurd (omega (arith, r (omega arith))))
+        three-rest roots n (touchedPlace + n) (allPendingPlace + n) _ _ _ j (λ z. absurd (omega (arith, p (omega arith)))) (λ z. absurd (omega (arith, q (omega arith) (omega arith)))) (λ z. absurd (omega (arith, r (omega arith))))
         ∙ s .placed .rest-at j (λ h. omega (arith, p h)) (λ h g. omega (arith, q h g)) (λ h. omega (arith, r h));
   };
 }
@@ -79,10 +80,10 @@ placing-done {count = count} {n} {more} s le e =
 -- a loop over the transistors
 pub record Keepers (before kept : List ℕ) (i : ℕ) (roots : List ℕ) : Type 0 where
   pub few : i ≤ 64
-  pub long : length roots ≡ 142
+  pub long : length roots ≡ allRootsLength
   pub placed : KeptRoots before kept i roots
 
-pub keepers-first : {before kept : List ℕ} → length before ≡ 142 → Keepers before kept 0 before
+pub keepers-first : {before kept : List ℕ} → length before ≡ allRootsLength → Keepers before kept 0 before
 keepers-first long = record { few = omega arith; long = long; placed = record { kept-at = λ i h. absurd (omega arith); below-at = λ j h. refl; above-at = λ j h. refl } }
 
 pub keepers-next : {before kept roots : List ℕ} {i : ℕ} → Keepers before kept i roots → i < 64 → Keepers before kept (i + 1) (set roots (26 + i) (getD kept i 0))

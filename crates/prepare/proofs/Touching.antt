@@ -17,11 +17,12 @@ use Rattle.format.specs.Circuit.{Circuit, noTransistor}
 use Rattle.format.proofs.Legal.{LegalTransistor, LegalCell}
 use Rattle.diagram.specs.Pattern.{patterns}
 use Rattle.diagram.specs.Table.{Table, numberAt}
-use Rattle.diagram.specs.Call.{tableOf}
+use Rattle.diagram.specs.Held.{held}
 use Rattle.diagram.proofs.Add.{Extends, extends-refl, extends-trans}
 use Rattle.diagram.proofs.Number.{number-zeroth}
 use Rattle.table.specs.declared.Put.{Put}
-use Rattle.table.specs.Holds.{columns}
+use Rattle.table.specs.declared.Stop.the-variants.{Going}
+use Rattle.table.specs.Stop.{stopped}
 use Rattle.functions.specs.Open.{Open}
 use Rattle.working.specs.Grown.{Means, bit, Grown}
 use Rattle.working.specs.Many.{AllUsed, Filled}
@@ -49,31 +50,31 @@ three-bits false false false false = refl
 -- the number of an entry that is 0 unless a test passes
 module _ {letters : ℕ} {l w h ix : List ℕ} {used : ℕ} (o : Open letters l w h ix used) where
   abbrev n : ℕ → ℕ → ℕ
-  n e p = numberAt letters (tableOf (columns l w h) used) e p
+  n e p = numberAt letters (held l w h used) e p
 
   if-number : (b : Bool) (e p : ℕ) → n e p ≤ 1 → n (cond b e 0) p ≡ bit (b && eqb (n e p) 1)
   if-number true e p small = bit-back (n e p) small
-  if-number false e p small = number-zeroth (tableOf (columns l w h) used) p (open-few o) (open-sound o)
+  if-number false e p small = number-zeroth (held l w h used) p (open-few o) (open-sound o)
 
   -- z, the gate's change, and the changes of the ends that are inputs
   pub touch-grown : (z gate ea eb a b : ℕ) (ia ib : Bool) {l1 w1 h1 ix1 l2 w2 h2 ix2 l3 w3 h3 ix3 : List ℕ} {p q r : Put} → a ≡ cond ia ea 0 → b ≡ cond ib eb 0 → a < used → b < used
-      → ((x : ℕ) → x < patterns letters → numberAt letters (tableOf (columns l w h) used) gate x ≤ 1) → ((x : ℕ) → x < patterns letters → numberAt letters (tableOf (columns l w h) used) ea x ≤ 1) → ((x : ℕ) → x < patterns letters → numberAt letters (tableOf (columns l w h) used) eb x ≤ 1)
-      → (g : Grown letters (tableOf (columns l w h) used) (λ x. cond (eqb (numberAt letters (tableOf (columns l w h) used) z x) 1) 1 (numberAt letters (tableOf (columns l w h) used) gate x)) l1 w1 h1 ix1 p) → p .full ≡ false
-      → (s : Grown letters (tableOf (columns l1 w1 h1) (p .used)) (λ x. cond (eqb (numberAt letters (tableOf (columns l1 w1 h1) (p .used)) (p .entry) x) 1) 1 (numberAt letters (tableOf (columns l1 w1 h1) (p .used)) a x)) l2 w2 h2 ix2 q) → q .full ≡ false
-      → Grown letters (tableOf (columns l2 w2 h2) (q .used)) (λ x. cond (eqb (numberAt letters (tableOf (columns l2 w2 h2) (q .used)) (q .entry) x) 1) 1 (numberAt letters (tableOf (columns l2 w2 h2) (q .used)) b x)) l3 w3 h3 ix3 r
-      → Grown letters (tableOf (columns l w h) used) (λ x. bit (eqb (numberAt letters (tableOf (columns l w h) used) z x) 1 || ((eqb (numberAt letters (tableOf (columns l w h) used) gate x) 1 || (ia && eqb (numberAt letters (tableOf (columns l w h) used) ea x) 1)) || (ib && eqb (numberAt letters (tableOf (columns l w h) used) eb x) 1)))) l3 w3 h3 ix3 r
+      → ((x : ℕ) → x < patterns letters → numberAt letters (held l w h used) gate x ≤ 1) → ((x : ℕ) → x < patterns letters → numberAt letters (held l w h used) ea x ≤ 1) → ((x : ℕ) → x < patterns letters → numberAt letters (held l w h used) eb x ≤ 1)
+      → (g : Grown letters (held l w h used) (λ x. cond (eqb (numberAt letters (held l w h used) z x) 1) 1 (numberAt letters (held l w h used) gate x)) l1 w1 h1 ix1 p) → stopped (p .stop) ≡ false
+      → (s : Grown letters (held l1 w1 h1 (p .used)) (λ x. cond (eqb (numberAt letters (held l1 w1 h1 (p .used)) (p .entry) x) 1) 1 (numberAt letters (held l1 w1 h1 (p .used)) a x)) l2 w2 h2 ix2 q) → stopped (q .stop) ≡ false
+      → Grown letters (held l2 w2 h2 (q .used)) (λ x. cond (eqb (numberAt letters (held l2 w2 h2 (q .used)) (q .entry) x) 1) 1 (numberAt letters (held l2 w2 h2 (q .used)) b x)) l3 w3 h3 ix3 r
+      → Grown letters (held l w h used) (λ x. bit (eqb (numberAt letters (held l w h used) z x) 1 || ((eqb (numberAt letters (held l w h used) gate x) 1 || (ia && eqb (numberAt letters (held l w h used) ea x) 1)) || (ib && eqb (numberAt letters (held l w h used) eb x) 1)))) l3 w3 h3 ix3 r
   touch-grown z gate ea eb a b ia ib {l1} {w1} {h1} {ix1} {l2} {w2} {h2} {ix2} {p = p} {q} da db ha hb fg fa fb g room s rest u =
-      let x : Extends (tableOf (columns l w h) used) (tableOf (columns l2 w2 h2) (q .used)) = extends-trans (g .extends room) (s .extends rest) in
+      let x : Extends (held l w h used) (held l2 w2 h2 (q .used)) = extends-trans (g .extends room) (s .extends rest) in
       grown-then (grown-then g room s) rest
       (grown-same u (λ y hy.
-      ap (λ (v : ℕ). cond (eqb v 1) 1 (numberAt letters (tableOf (columns l2 w2 h2) (q .used)) b y)) (s .means rest .number y hy)
+      ap (λ (v : ℕ). cond (eqb v 1) 1 (numberAt letters (held l2 w2 h2 (q .used)) b y)) (s .means rest .number y hy)
       ∙ rw (g .means room .number y hy, grown-number o g room a y ha, number-kept o x b y hb, da, db, if-number ia ea y (fa y hy), if-number ib eb y (fb y hy))
       (ap (λ (v : ℕ). cond (eqb (cond (eqb (cond (eqb (n z y) 1) 1 v) 1) 1 (bit (ia && eqb (n ea y) 1))) 1) 1 (bit (ib && eqb (n eb y) 1))) (bit-back (n gate y) (fg y hy))
       ∙ three-bits (eqb (n z y) 1) (eqb (n gate y) 1) (ia && eqb (n ea y) 1) (ib && eqb (n eb y) 1))))
 
   -- a group that is not considered, or none
-  pub touch-not : (z : ℕ) (f : ℕ → Bool) → z < used → ((x : ℕ) → x < patterns letters → numberAt letters (tableOf (columns l w h) used) z x ≤ 1) → ((x : ℕ) → f x ≡ false)
-      → Grown letters (tableOf (columns l w h) used) (λ x. bit (eqb (numberAt letters (tableOf (columns l w h) used) z x) 1 || f x)) l w h ix (record { full = false; entry = z; used = used })
+  pub touch-not : (z : ℕ) (f : ℕ → Bool) → z < used → ((x : ℕ) → x < patterns letters → numberAt letters (held l w h used) z x ≤ 1) → ((x : ℕ) → f x ≡ false)
+      → Grown letters (held l w h used) (λ x. bit (eqb (numberAt letters (held l w h used) z x) 1 || f x)) l w h ix (record { stop = Going; entry = z; used = used })
   touch-not z f hz fz none =
       grown-same (grown-there o (means-own o hz)) (λ y hy. bit-back (n z y) (fz y hy) ∙ sym (ap bit (ap (λ (v : Bool). eqb (n z y) 1 || v) (none y) ∙ or-false (eqb (n z y) 1))))
 
@@ -125,7 +126,7 @@ pub record Passing (c : Circuit) (only letters : ℕ) (t : Table) (changed l0 w0
 
 -- none of them yet
 pub passing-first : {c : Circuit} {only letters : ℕ} {changed l w h ix : List ℕ} {used : ℕ} {out : List ℕ} {count : ℕ} → Open letters l w h ix used → length out ≡ 26 → ((g : ℕ) → g < 26 → getD out g 0 ≡ 0)
-    → Passing c only letters (tableOf (columns l w h) used) changed l w h ix l w h ix used out 0 count
+    → Passing c only letters (held l w h used) changed l w h ix l w h ix used out 0 count
 unfolding some
 passing-first {letters = letters} {l = l} {w} {h} {ix} {used} o long zeros = record {
   few = omega arith;
@@ -134,34 +135,34 @@ passing-first {letters = letters} {l = l} {w} {h} {ix} {used} o long zeros = rec
   low-long = refl;
   high-long = refl;
   index-long = refl;
-  filled = record { opened = o; extends = extends-refl _; means = λ g hg. subst (λ (e : ℕ). Means letters (tableOf (columns l w h) used) e (λ p. 0)) (sym (zeros g hg)) (means-zero o) };
+  filled = record { opened = o; extends = extends-refl _; means = λ g hg. subst (λ (e : ℕ). Means letters (held l w h used) e (λ p. 0)) (sym (zeros g hg)) (means-zero o) };
 }
 
 module _ {c : Circuit} {only letters : ℕ} {l0 w0 h0 ix0 : List ℕ} {used0 : ℕ} {changed l w h ix : List ℕ} {used : ℕ} {out : List ℕ} {i count : ℕ}
-    (o : Open letters l0 w0 h0 ix0 used0) (hc : AllUsed 26 changed used0) (bits : Bits letters (tableOf (columns l0 w0 h0) used0) changed 26)
-    (s : Passing c only letters (tableOf (columns l0 w0 h0) used0) changed l0 w0 h0 ix0 l w h ix used out i count) where
+    (o : Open letters l0 w0 h0 ix0 used0) (hc : AllUsed 26 changed used0) (bits : Bits letters (held l0 w0 h0 used0) changed 26)
+    (s : Passing c only letters (held l0 w0 h0 used0) changed l0 w0 h0 ix0 l w h ix used out i count) where
   abbrev t0 : Table
-  t0 = tableOf (columns l0 w0 h0) used0
+  t0 = held l0 w0 h0 used0
 
   -- what the call asks
   pub passing-used : AllUsed 26 changed used
   passing-used m hm = used-kept o (s .filled .opened) (s .filled .extends) (hc m hm)
 
-  pub passing-bits : Bits letters (tableOf (columns l w h) used) changed 26
+  pub passing-bits : Bits letters (held l w h used) changed 26
   passing-bits m p hm hp = subst (λ (v : ℕ). v ≤ 1) (sym (number-kept o (s .filled .extends) (getD changed m 0) p (hc m hm))) (bits m p hm hp)
 
   pub passing-entry : (g : ℕ) → g < 26 → getD out g 0 < used
   passing-entry g hg = means-used (s .filled .opened) (s .filled .means g hg)
 
-  pub passing-bit : (g : ℕ) → g < 26 → (p : ℕ) → p < patterns letters → numberAt letters (tableOf (columns l w h) used) (getD out g 0) p ≤ 1
+  pub passing-bit : (g : ℕ) → g < 26 → (p : ℕ) → p < patterns letters → numberAt letters (held l w h used) (getD out g 0) p ≤ 1
   passing-bit g hg p hp = subst (λ (v : ℕ). v ≤ 1) (sym (s .filled .means g hg .number p hp)) (cond-le (touchedBy c only (λ n. one letters t0 (getD changed n 0) p) (take i (c .transistors)) g))
 
   -- one transistor more, of group g
   pub passing-next : (t : Transistor) (g : ℕ) {l2 w2 h2 ix2 : List ℕ} {r : Put} → getD (c .transistors) i noTransistor ≡ t → LegalTransistor (length (c .nodes)) t → length (c .nodes) ≤ 24 → i < length (c .transistors) → i < count → g < 26
       → ((m : ℕ) → (m ≡ g → ⊥) → ofLabel c m t ≡ false)
-      → Grown letters (tableOf (columns l w h) used) (λ p. bit (one letters (tableOf (columns l w h) used) (getD out g 0) p || ((considered only g && ofLabel c g t) && disturbedBy c (λ n. one letters (tableOf (columns l w h) used) (getD changed n 0) p) t))) l2 w2 h2 ix2 r → r .full ≡ false
+      → Grown letters (held l w h used) (λ p. bit (one letters (held l w h used) (getD out g 0) p || ((considered only g && ofLabel c g t) && disturbedBy c (λ n. one letters (held l w h used) (getD changed n 0) p) t))) l2 w2 h2 ix2 r → stopped (r .stop) ≡ false
       → length l2 ≡ length l → length w2 ≡ length w → length h2 ≡ length h → length ix2 ≡ length ix
-      → Passing c only letters (tableOf (columns l0 w0 h0) used0) changed l0 w0 h0 ix0 l2 w2 h2 ix2 (r .used) (set out g (r .entry)) (i + 1) count
+      → Passing c only letters (held l0 w0 h0 used0) changed l0 w0 h0 ix0 l2 w2 h2 ix2 (r .used) (set out g (r .entry)) (i + 1) count
   passing-next t g {r = r} te legal few hi lt hg other q room a b cc d = record {
     few = omega arith;
     long = length-set out g (r .entry) ∙ s .long;
@@ -176,10 +177,10 @@ module _ {c : Circuit} {only letters : ℕ} {l0 w0 h0 ix0 : List ℕ} {used0 : �
           ≡ touchedBy c only (λ n. one letters t0 (getD changed n 0) p) (take i (c .transistors)) m || ((considered only m && ofLabel c m t) && disturbedBy c (λ n. one letters t0 (getD changed n 0) p) t)
       then m p = touched-more c only (λ n. one letters t0 (getD changed n 0) p) m i hi ∙ ap (λ (u : Transistor). touchedBy c only (λ n. one letters t0 (getD changed n 0) p) (take i (c .transistors)) m || ((considered only m && ofLabel c m u) && disturbedBy c (λ n. one letters t0 (getD changed n 0) p) u)) te
 
-      old : (n p : ℕ) → n < 26 → one letters (tableOf (columns l w h) used) (getD changed n 0) p ≡ one letters t0 (getD changed n 0) p
+      old : (n p : ℕ) → n < 26 → one letters (held l w h used) (getD changed n 0) p ≡ one letters t0 (getD changed n 0) p
       old n p hn = ap (λ (v : ℕ). eqb v 1) (number-kept o (s .filled .extends) (getD changed n 0) p (hc n hn))
 
-      same : (p : ℕ) → p < patterns letters → bit (one letters (tableOf (columns l w h) used) (getD out g 0) p || ((considered only g && ofLabel c g t) && disturbedBy c (λ n. one letters (tableOf (columns l w h) used) (getD changed n 0) p) t))
+      same : (p : ℕ) → p < patterns letters → bit (one letters (held l w h used) (getD out g 0) p || ((considered only g && ofLabel c g t) && disturbedBy c (λ n. one letters (held l w h used) (getD changed n 0) p) t))
           ≡ bit (touchedBy c only (λ n. one letters t0 (getD changed n 0) p) (take (i + 1) (c .transistors)) g)
       same p hp =
           rw (old (t .gate) p (omega (arith, legal .gate-is)), old (t .first) p (omega (arith, legal .first-is)), old (t .second) p (omega (arith, legal .second-is)))
@@ -212,10 +213,10 @@ touched-same c l only f e same g =
     rw (same (t .gate) (legal .gate-is), same (t .first) (legal .first-is), same (t .second) (legal .second-is)))
 
 -- entries 0 and 1 everywhere
-pub filled-bits : {letters : ℕ} {l w h ix : List ℕ} {used : ℕ} {entries : List ℕ} (f : ℕ → Bool) → Open letters l w h ix used → ((g : ℕ) → g < 26 → getD entries g 0 ≡ bit (f g)) → Filled 26 letters (tableOf (columns l w h) used) (λ g p. bit (f g)) l w h ix used entries
-filled-bits {letters} {l} {w} {h} {ix} {used} {entries} f o same = record { opened = o; extends = extends-refl _; means = λ g hg. subst (λ (e : ℕ). Means letters (tableOf (columns l w h) used) e (λ p. bit (f g))) (sym (same g hg)) (by (f g)) }
+pub filled-bits : {letters : ℕ} {l w h ix : List ℕ} {used : ℕ} {entries : List ℕ} (f : ℕ → Bool) → Open letters l w h ix used → ((g : ℕ) → g < 26 → getD entries g 0 ≡ bit (f g)) → Filled 26 letters (held l w h used) (λ g p. bit (f g)) l w h ix used entries
+filled-bits {letters} {l} {w} {h} {ix} {used} {entries} f o same = record { opened = o; extends = extends-refl _; means = λ g hg. subst (λ (e : ℕ). Means letters (held l w h used) e (λ p. bit (f g))) (sym (same g hg)) (by (f g)) }
   where
-    by : (b : Bool) → Means letters (tableOf (columns l w h) used) (bit b) (λ p. bit b)
+    by : (b : Bool) → Means letters (held l w h used) (bit b) (λ p. bit b)
     by true = is-one (open-few o) (open-sound o)
     by false = is-zero (open-few o) (open-sound o)
 
@@ -248,7 +249,7 @@ marking-next {only} {g} {e} {out} s lt same = record {
 
 -- touched everywhere
 pub touch-every : {letters : ℕ} {l w h ix : List ℕ} {used : ℕ} {entries : List ℕ} (c : Circuit) (count : ℕ) (t : Table) (before after : List ℕ) (all : Bool) (only : ℕ) → all ≡ true → Open letters l w h ix used → ((g : ℕ) → g < 26 → getD entries g 0 ≡ bit (not (eqb g 0) && considered only g))
-    → Filled 26 letters (tableOf (columns l w h) used) (λ g p. bit (touchedLabel c count letters t before after all only p g)) l w h ix used entries
+    → Filled 26 letters (held l w h used) (λ g p. bit (touchedLabel c count letters t before after all only p g)) l w h ix used entries
 touch-every {letters} c count t before after all only e o same =
     filled-same (filled-bits (λ g. not (eqb g 0) && considered only g) o same)
     (λ g p _ _. sym (ap (λ (z : Bool). bit (cond z (not (eqb g 0) && considered only g) (touchedBy c only (differs count letters t before after p) (c .transistors) g))) e))
@@ -264,17 +265,17 @@ if-one false b = refl
 
 module _ {letters : ℕ} {t0 : Table} (t : Table) (before after : List ℕ) (count : ℕ) {l w h ix : List ℕ} {used : ℕ} {entries : List ℕ}
     (s : Filled 26 letters t0 (λ m p. cond (ltb m count) (bit (not (eqb (numberAt letters t (getD before m 0) p) (numberAt letters t (getD after m 0) p)))) 0) l w h ix used entries) where
-  pub changes-bits : Bits letters (tableOf (columns l w h) used) entries 26
+  pub changes-bits : Bits letters (held l w h used) entries 26
   changes-bits m p hm hp = subst (λ (v : ℕ). v ≤ 1) (sym (s .means m hm .number p hp)) (if-bit (ltb m count) (not (eqb (numberAt letters t (getD before m 0) p) (numberAt letters t (getD after m 0) p))))
 
   -- and what touches
   pub touch-done : (c : Circuit) → LegalCell c → length (c .nodes) ≤ 24 → (all : Bool) (only more : ℕ) → all ≡ false → count ≡ more → more ≡ 2 + length (c .nodes) → {l2 w2 h2 ix2 : List ℕ} {used2 : ℕ} {marks : List ℕ}
-      → Filled 26 letters (tableOf (columns l w h) used) (λ g p. bit (touchedBy c only (λ n. one letters (tableOf (columns l w h) used) (getD entries n 0) p) (c .transistors) g)) l2 w2 h2 ix2 used2 marks
+      → Filled 26 letters (held l w h used) (λ g p. bit (touchedBy c only (λ n. one letters (held l w h used) (getD entries n 0) p) (c .transistors) g)) l2 w2 h2 ix2 used2 marks
       → Filled 26 letters t0 (λ g p. bit (touchedLabel c more letters t before after all only p g)) l2 w2 h2 ix2 used2 marks
   touch-done c legal few all only more e same is f =
       filled-from
       (filled-same f (λ g p hg hp.
-      ap bit (touched-same c legal only (λ n. one letters (tableOf (columns l w h) used) (getD entries n 0) p) (differs more letters t before after p)
+      ap bit (touched-same c legal only (λ n. one letters (held l w h used) (getD entries n 0) p) (differs more letters t before after p)
       (λ n hn. ap (λ (v : ℕ). eqb v 1) (s .means n (omega arith) .number p hp) ∙ if-one (ltb n count) (not (eqb (numberAt letters t (getD before n 0) p) (numberAt letters t (getD after n 0) p))) ∙ ap (λ (z : ℕ). ltb n z && not (eqb (numberAt letters t (getD before n 0) p) (numberAt letters t (getD after n 0) p))) same) g)
       ∙ sym (ap (λ (z : Bool). bit (cond z (not (eqb g 0) && considered only g) (touchedBy c only (differs more letters t before after p) (c .transistors) g))) e)))
       (s .extends)

@@ -7,34 +7,23 @@ use lib.ListN.{getD}
 use Rattle.format.specs.Circuit.{Circuit, firstNodeNumber}
 use Rattle.diagram.specs.Pattern.{patterns}
 use Rattle.diagram.specs.Table.{Table, numberAt}
+use Rattle.diagram.specs.Held.{held}
 use Rattle.functions.specs.Open.{Open}
 use Rattle.working.specs.Grown.{bit}
-use Rattle.working.specs.Many.{held, AllUsed}
+use Rattle.working.specs.Many.{AllUsed}
 use Rattle.rules.specs.State.{State, isInner}
 use Rattle.rules.specs.Group.{labelAt, groups, ofGroup, reconsidered}
 use Rattle.rules.proofs.Matrix.{isKept, transistorAt}
 use Rattle.net.specs.Net.{nodesPlace, transistorsPlace, at, netCircuit, netGroup}
+use Rattle.net.specs.Roots.{keptPlace, touchedPlace, allPendingPlace, allRootsLength}
 use Rattle.prepare.specs.Steps.{Shows, considered}
-
--- the places of the roots: a node's value, a transistor's kept function, a node's touched function, its next change
-abbrev pub keptPlace : ℕ
-keptPlace = 26
-
-abbrev pub touchedPlace : ℕ
-touchedPlace = 90
-
-abbrev pub pendingPlace : ℕ
-pendingPlace = 116
-
-abbrev pub rootsLength : ℕ
-rootsLength = 142
 
 -- the nodes' roots of the first `count` nodes stand in their places, and 0 elsewhere
 pub record NodeRoots (c : Circuit) (nodes : ℕ) (values touched waiting : List ℕ) (count : ℕ) (roots : List ℕ) : Type 0 where
   pub value-at : (n : ℕ) → n < count → getD roots n 0 ≡ getD values n 0
   pub touched-at : (n : ℕ) → n < count → getD roots (touchedPlace + n) 0 ≡ cond (isInner c n) (getD touched (labelAt (groups c) n) 0) 0
-  pub pending-at : (n : ℕ) → n < count → getD roots (pendingPlace + n) 0 ≡ getD waiting n 0
-  pub rest-at : (j : ℕ) → (j < 26 → count ≤ j) → (touchedPlace ≤ j → j < pendingPlace → touchedPlace + count ≤ j) → (pendingPlace ≤ j → pendingPlace + count ≤ j) → getD roots j 0 ≡ 0
+  pub pending-at : (n : ℕ) → n < count → getD roots (allPendingPlace + n) 0 ≡ getD waiting n 0
+  pub rest-at : (j : ℕ) → (j < 26 → count ≤ j) → (touchedPlace ≤ j → j < allPendingPlace → touchedPlace + count ≤ j) → (allPendingPlace ≤ j → allPendingPlace + count ≤ j) → getD roots j 0 ≡ 0
 
 -- the kept functions of the first `count` transistors stand in their places, and elsewhere what was there
 pub record KeptRoots (before kept : List ℕ) (count : ℕ) (roots : List ℕ) : Type 0 where
@@ -45,10 +34,10 @@ pub record KeptRoots (before kept : List ℕ) (count : ℕ) (roots : List ℕ) :
 -- the roots are entries of the working table in the columns; t is the lent table, and `before`, `after` and `pending` are entries of it
 pub record Roots (net : List ℕ) (letters : ℕ) (t : Table) (before after pending : List ℕ) (all : Bool) (only : ℕ) (l w h ix : List ℕ) (used : ℕ) (roots : List ℕ) : Type 0 where
   pub opened : Open letters l w h ix used
-  pub within : AllUsed rootsLength roots used
+  pub within : AllUsed allRootsLength roots used
   -- values and next changes are those of the lent table
   pub value-is : (n p : ℕ) → n < firstNodeNumber + at net nodesPlace → p < patterns letters → numberAt letters (held l w h used) (getD roots n 0) p ≡ numberAt letters t (getD after n 0) p
-  pub pending-is : (n p : ℕ) → n < firstNodeNumber + at net nodesPlace → p < patterns letters → numberAt letters (held l w h used) (getD roots (pendingPlace + n) 0) p ≡ numberAt letters t (getD pending n 0) p
+  pub pending-is : (n p : ℕ) → n < firstNodeNumber + at net nodesPlace → p < patterns letters → numberAt letters (held l w h used) (getD roots (allPendingPlace + n) 0) p ≡ numberAt letters t (getD pending n 0) p
   -- rule 2: an inner node of a considered group is touched where it is reconsidered, or everywhere at the start
   pub touched-is : (n p : ℕ) (sb sa : State) → n < firstNodeNumber + at net nodesPlace → isInner (netCircuit net) n ≡ true → considered only (netGroup net n) ≡ true → p < patterns letters
       → Shows letters t before (at net nodesPlace) p sb → Shows letters t after (at net nodesPlace) p sa

@@ -10,9 +10,8 @@ use Rattle.format.specs.Circuit.{Circuit, firstNodeNumber}
 use Rattle.format.specs.Legal.{isInput}
 use Rattle.diagram.specs.Pattern.{patterns}
 use Rattle.diagram.specs.Table.{Table, numberAt}
-use Rattle.diagram.specs.Call.{tableOf}
+use Rattle.diagram.specs.Held.{held}
 use Rattle.diagram.proofs.Add.{Extends}
-use Rattle.table.specs.Holds.{columns}
 use Rattle.functions.specs.Open.{Open}
 use Rattle.working.specs.Grown.{bit}
 use Rattle.working.specs.Many.{cell, AllUsed}
@@ -77,18 +76,18 @@ lookedAt c letters t touched p i = one letters t (getD touched (groupOf c (trans
 -- the first `count` transistors gone through: their kept functions, and the matrix after them
 pub record Keeping (c : Circuit) (nodes letters : ℕ) (t : Table) (values touched : List ℕ) (count : ℕ) (l w h ix : List ℕ) (used : ℕ) (kept : List ℕ) (joined : List (List ℕ)) : Type 0 where
   pub opened : Open letters l w h ix used
-  pub extends : Extends t (tableOf (columns l w h) used)
+  pub extends : Extends t (held l w h used)
   pub kept-used : AllUsed 64 kept used
   pub joined-used : (x y : ℕ) → x < 24 → y < 24 → cell joined x y < used
   pub kept-is : (i p : ℕ) (s : State) → i < count → p < patterns letters → Shows letters t values nodes p s
-      → numberAt letters (tableOf (columns l w h) used) (getD kept i 0) p ≡ bit (isHeld c s (lookedAt c letters t touched p) i)
+      → numberAt letters (held l w h used) (getD kept i 0) p ≡ bit (isHeld c s (lookedAt c letters t touched p) i)
   pub joined-is : (x y p : ℕ) (s : State) → x < 24 → y < 24 → p < patterns letters → Shows letters t values nodes p s
-      → numberAt letters (tableOf (columns l w h) used) (cell joined x y) p ≡ bit (matrixAt c s (lookedAt c letters t touched p) count (x + 2) (y + 2))
+      → numberAt letters (held l w h used) (cell joined x y) p ≡ bit (matrixAt c s (lookedAt c letters t touched p) count (x + 2) (y + 2))
 
 -- the kept functions of all transistors
 pub record KeptAll (c : Circuit) (nodes letters : ℕ) (t : Table) (values touched : List ℕ) (count : ℕ) (l w h ix : List ℕ) (used : ℕ) (kept : List ℕ) : Type 0 where
   pub opened : Open letters l w h ix used
-  pub extends : Extends t (tableOf (columns l w h) used)
+  pub extends : Extends t (held l w h used)
   pub kept-used : AllUsed 64 kept used
   pub kept-is : (i p : ℕ) (s : State) → i < count → p < patterns letters → Shows letters t values nodes p s
-      → numberAt letters (tableOf (columns l w h) used) (getD kept i 0) p ≡ bit (isHeld c s (lookedAt c letters t touched p) i)
+      → numberAt letters (held l w h used) (getD kept i 0) p ≡ bit (isHeld c s (lookedAt c letters t touched p) i)

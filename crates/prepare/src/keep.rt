@@ -6,9 +6,11 @@ ghost use lib.ListN.{getD};
 ghost use lib.Dec.{eqb};
 ghost use Rattle.format.specs.Circuit.{firstNodeNumber};
 ghost use Rattle.diagram.specs.Table.{numberAt};
+ghost use Rattle.diagram.specs.Held.{held};
+ghost use Rattle.table.specs.Stop.{stopped};
 ghost use Rattle.functions.specs.Open.{Open};
 ghost use Rattle.working.specs.Grown.{bit, Crowded, Grown};
-ghost use Rattle.working.specs.Many.{held, AllUsed, cell, Matrixed, linkedNumber};
+ghost use Rattle.working.specs.Many.{AllUsed, cell, Matrixed, linkedNumber};
 ghost use Rattle.rules.specs.Group.{betweenInner};
 ghost use Rattle.net.specs.Net.{nodesPlace, transistorsPlace, at as atPlace, netTransistor, netCircuit};
 ghost use Rattle.net.specs.Laid.{Laid};
@@ -16,6 +18,8 @@ ghost use Rattle.prepare.specs.Steps.{Bits, groupOf, conductsNumber, kep
 use crate::touch::group_of;
 use net::inner::between_inner;
 use table::Put;
+use table::Stop;
+use table::stopped;
 use working::both;
 use working::link::link;
 use working::opposite;
@@ -23,7 +27,7 @@ use working::without;
 
 // The kept functions by transistor number, unless there was no room.
 pub struct Kept {
-    pub full: bool,
+    pub stop: Stop,
     pub used: u32,
     pub entries: [u32; 64],
 }
@@ -51,7 +55,7 @@ fn conducts(
         return opposite(letter, low, high, index, used, k, v);
     }
     Put {
-        full: false,
+        stop: Stop::Going,
         entry: v,
         used,
     }
@@ -79,17 +83,19 @@ fn keep(
     let e = touched[g];
     if e == 0 {
         return Put {
-            full: false,
+            stop: Stop::Going,
             entry: 0,
             used,
         };
     }
     let p = conducts(net, values, letter, low, high, index, used, k, i);
-    if p.full {
+    let why = p.stop;
+    if stopped(why) {
         return p;
     }
     let q = both(letter, low, high, index, p.used, k, e, p.entry);
-    if q.full {
+    let why = q.stop;
+    if stopped(why) {
         return q;
     }
     if !between_inner(net, i) {
@@ -157,7 +163,7 @@ pub fn keep_all(
 ) -> Kept
     requires { ⌜ Laid (netCircuit (now net)) (now net) ⌝ }
     requires { ⌜ Open k (now letter) (now low) (now high) (now index) used × AllUsed 26 values used × AllUsed 26 touched used × Bits k (held (now letter) (now low) (now high) used) values (firstNodeNumber + atPlace (now net) nodesPlace) ⌝ }
-    ensures { λ r. ⌜ (r .full ≡ false → KeptAll (netCircuit (now (net .entry))) (atPlace (now (net .entry)) nodesPlace) k (held (now (letter .entry)) (now (low .entry)) (now (high .entry)) used) values touched (atPlace (now (net .entry)) transistorsPlace) (now (letter .exit)) (now (low .exit)) (now (high .exit)) (now (index .exit)) (r .used) (r .entries)) × (r .full ≡ true → Crowded k (held (now (letter .entry)) (now (low .entry)) (now (high .entry)) used) (now (letter .exit)) (now (low .exit)) (now (high .exit)) (now (index .exit))) ⌝ }
+    ensures { λ r. ⌜ (stopped (r .stop) ≡ false → KeptAll (netCircuit (now (net .entry))) (atPlace (now (net .entry)) nodesPlace) k (held (now (letter .entry)) (now (low .entry)) (now (high .entry)) used) values touched (atPlace (now (net .entry)) transistorsPlace) (now (letter .exit)) (now (low .exit)) (now (high .exit)) (now (index .exit)) (r .used) (r .entries)) × (stopped (r .stop) ≡ true → Crowded k (held (now (letter .entry)) (now (low .entry)) (now (high .entry)) used) (now (letter .exit)) (now (low .exit)) (now (high .exit)) (now (index .exit))) ⌝ }
 {
     let count = net[net::TRANSISTORS];
     let mut joined = identity();
@@ -178,9 +184,10 @@ pub fn keep_all(
             k,
             i,
         );
-        if p.full {
+        let why = p.stop;
+        if stopped(why) {
             return Kept {
-                full: true,
+                stop: why,
                 used,
                 entries: out,
             };
@@ -191,7 +198,7 @@ pub fn keep_all(
         let next = link_kept(net, letter, low, high, index, &mut now, k, i, e, joined);
         if now == 0 {
             return Kept {
-                full: true,
+                stop: Stop::Full,
                 used,
                 entries: out,
             };
@@ -200,7 +207,7 @@ pub fn keep_all(
         i += 1;
     }
     Kept {
-        full: false,
+        stop: Stop::Going,
         used: now,
         entries: out,
     }

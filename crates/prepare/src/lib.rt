@@ -6,9 +6,11 @@ ghost use mathlib.Core.Bool.{true, false, cond};
 ghost use Prim.Native.Nat.{_+_, _<_};
 ghost use lib.ListN.{length, getD};
 ghost use Rattle.format.specs.Circuit.{firstNodeNumber};
+ghost use Rattle.diagram.specs.Held.{held};
 ghost use Rattle.table.specs.Holds.{Sized};
+ghost use Rattle.table.specs.Stop.{stopped};
 ghost use Rattle.functions.specs.Open.{Legible, Open};
-ghost use Rattle.working.specs.Many.{held, AllUsed};
+ghost use Rattle.working.specs.Many.{AllUsed};
 ghost use Rattle.rules.specs.State.{isInner};
 ghost use Rattle.rules.specs.Group.{labelAt, groups};
 ghost use Rattle.net.specs.Net.{nodesPlace, at as atPlace, netCircuit};
@@ -21,25 +23,31 @@ pub mod touch;
 
 use keep::keep_all;
 use net::inner::is_inner;
+use net::roots::ALL_PENDING;
+use net::roots::ALL_ROOTS;
+use net::roots::KEPT;
+use net::roots::TOUCHED;
+use table::Stop;
+use table::stopped;
 use touch::touch_all;
 use working::begin;
 use working::many::bring_all;
 
-// The roots of a step, unless the working table had no room: at n the value of node n, at 26 + i the kept function of transistor i,
-// at 90 + n the touched function of node n, at 116 + n its next change.
+// The roots of a step in their places (net::roots), unless the working table had no room.
 pub struct Prepared {
-    pub full: bool,
+    pub stop: Stop,
     pub used: u32,
-    pub roots: [u32; 142],
+    pub roots: [u32; ALL_ROOTS],
 }
 
-fn no_room() -> Prepared
-    ensures { λ r. ⌜ r .full ≡ true ⌝ }
+// No roots, for a reason.
+fn nothing(stop: Stop) -> Prepared
+    ensures { λ r. ⌜ r .stop ≡ stop ⌝ }
 {
     Prepared {
-        full: true,
+        stop,
         used: 0,
-        roots: [0u32; 142],
+        roots: [0u32; ALL_ROOTS],
     }
 }
 
@@ -56,30 +64,35 @@ fn touched_of(net: &[u32], touched: [u32; 26], n: usize) -> u32
 }
 
 // The roots of the nodes in their places.
-fn node_roots(net: &[u32], values: [u32; 26], touched: [u32; 26], waiting: [u32; 26]) -> [u32; 142]
+fn node_roots(
+    net: &[u32],
+    values: [u32; 26],
+    touched: [u32; 26],
+    waiting: [u32; 26],
+) -> [u32; ALL_ROOTS]
     requires { ⌜ Laid (netCircuit (now net)) (now net) ⌝ }
     ensures { λ r. ⌜ NodeRoots (netCircuit (now (net .entry))) (atPlace (now (net .entry)) nodesPlace) values touched waiting (firstNodeNumber + atPlace (now (net .entry)) nodesPlace) r ⌝ }
 {
     let count = net[net::NODES] as usize + 2;
-    let mut out = [0u32; 142];
+    let mut out = [0u32; ALL_ROOTS];
     let mut n = 0;
     while n < count {
         out[n] = values[n];
-        out[90 + n] = touched_of(net, touched, n);
-        out[116 + n] = waiting[n];
+        out[TOUCHED + n] = touched_of(net, touched, n);
+        out[ALL_PENDING + n] = waiting[n];
         n += 1;
     }
     out
 }
 
 // The kept functions in their places.
-fn kept_roots(roots: [u32; 142], kept: [u32; 64]) -> [u32; 142]
+fn kept_roots(roots: [u32; ALL_ROOTS], kept: [u32; 64]) -> [u32; ALL_ROOTS]
     ensures { λ r. ⌜ KeptRoots roots kept 64 r ⌝ }
 {
     let mut out = roots;
     let mut i = 0;
     while i < 64 {
-        out[26 + i] = kept[i];
+        out[KEPT + i] = kept[i];
         i += 1;
     }
     out
@@ -105,7 +118,7 @@ pub fn prepare(
 ) -> Prepared
     requires { ⌜ Laid (netCircuit (now net)) (now net) × Legible k (now tletter) (now tlow) (now thigh) tused × Sized (now letter) (now low) (now high) (now index) ⌝ }
     requires { ⌜ AllUsed (firstNodeNumber + atPlace (now net) nodesPlace) before tused × AllUsed (firstNodeNumber + atPlace (now net) nodesPlace) after tused × AllUsed (firstNodeNumber + atPlace (now net) nodesPlace) pending tused × Bits k (held (now tletter) (now tlow) (now thigh) tused) before (firstNodeNumber + atPlace (now net) nodesPlace) × Bits k (held (now tletter) (now tlow) (now thigh) tused) after (firstNodeNumber + atPlace (now net) nodesPlace) ⌝ }
-    ensures { λ r. ⌜ (r .full ≡ false → Roots (now (net .entry)) k (held (now (tletter .entry)) (now (tlow .entry)) (now (thigh .entry)) tused) before after pending all only (now (letter .exit)) (now (low .exit)) (now (high .exit)) (now (index .exit)) (r .used) (r .roots)) × (r .full ≡ true → Open k (now (letter .exit)) (now (low .exit)) (now (high .exit)) (now (index .exit)) (length (now (letter .exit)))) ⌝ }
+    ensures { λ r. ⌜ (stopped (r .stop) ≡ false → Roots (now (net .entry)) k (held (now (tletter .entry)) (now (tlow .entry)) (now (thigh .entry)) tused) before after pending all only (now (letter .exit)) (now (low .exit)) (now (high .exit)) (now (index .exit)) (r .used) (r .roots)) × (stopped (r .stop) ≡ true → Open k (now (letter .exit)) (now (low .exit)) (now (high .exit)) (now (index .exit)) (length (now (letter .exit)))) ⌝ }
 {
     begin(letter, low, high, index, k);
     let count = net[net::NODES] as usize + 2;
@@ -123,8 +136,9 @@ pub fn prepare(
         after,
         count,
     );
-    if v.full {
-        return no_room();
+    let why = v.stop;
+    if stopped(why) {
+        return nothing(why);
     }
     let values = v.entries;
     let w = bring_all(
@@ -141,8 +155,9 @@ pub fn prepare(
         pending,
         count,
     );
-    if w.full {
-        return no_room();
+    let why = w.stop;
+    if stopped(why) {
+        return nothing(why);
     }
     let waiting = w.entries;
     let t = touch_all(
@@ -163,18 +178,20 @@ pub fn prepare(
         all,
         only,
     );
-    if t.full {
-        return no_room();
+    let why = t.stop;
+    if stopped(why) {
+        return nothing(why);
     }
     let touched = t.entries;
     let q = keep_all(net, values, touched, letter, low, high, index, t.used, k);
-    if q.full {
-        return no_room();
+    let why = q.stop;
+    if stopped(why) {
+        return nothing(why);
     }
     let kept = q.entries;
     let nodes = node_roots(net, values, touched, waiting);
     Prepared {
-        full: false,
+        stop: Stop::Going,
         used: q.used,
         roots: kept_roots(nodes, kept),
     }

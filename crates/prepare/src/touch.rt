@@ -8,14 +8,18 @@ ghost use Rattle.format.specs.Circuit.{firstNodeNumber};
 ghost use Rattle.format.specs.Legal.{isInput};
 ghost use Rattle.diagram.specs.Pattern.{patterns};
 ghost use Rattle.diagram.specs.Table.{numberAt};
+ghost use Rattle.diagram.specs.Held.{held};
+ghost use Rattle.table.specs.Stop.{stopped};
 ghost use Rattle.functions.specs.Open.{Open, Legible};
 ghost use Rattle.working.specs.Grown.{Means, bit, Crowded, Grown};
-ghost use Rattle.working.specs.Many.{held, AllUsed, Filled};
+ghost use Rattle.working.specs.Many.{AllUsed, Filled};
 ghost use Rattle.net.specs.Net.{nodesPlace, transistorsPlace, at as atPlace, netTransistor, netCircuit};
 ghost use Rattle.net.specs.Laid.{Laid};
 ghost use Rattle.prepare.specs.Steps.{Bits, one, groupOf, disturbedBy, ofLabel, considered, touchedBy, touchedLabel};
 use net::inner::is_inner;
 use table::Put;
+use table::Stop;
+use table::stopped;
 use working::either;
 use working::many::Many;
 use working::many::changed_all;
@@ -72,11 +76,13 @@ fn touch(
     let a = input_changed(net, changed, net[net::FIRST + at]);
     let b = input_changed(net, changed, net[net::SECOND + at]);
     let p = either(letter, low, high, index, used, k, z, changed[gate]);
-    if p.full {
+    let why = p.stop;
+    if stopped(why) {
         return p;
     }
     let q = either(letter, low, high, index, p.used, k, p.entry, a);
-    if q.full {
+    let why = q.stop;
+    if stopped(why) {
         return q;
     }
     either(letter, low, high, index, q.used, k, q.entry, b)
@@ -103,14 +109,14 @@ fn touch_one(
 {
     if g == 0 {
         return Put {
-            full: false,
+            stop: Stop::Going,
             entry: z,
             used,
         };
     }
     if group_bit(only, g) == 0 {
         return Put {
-            full: false,
+            stop: Stop::Going,
             entry: z,
             used,
         };
@@ -132,7 +138,7 @@ fn touch_groups(
 ) -> Many
     requires { ⌜ Laid (netCircuit (now net)) (now net) ⌝ }
     requires { ⌜ Open k (now letter) (now low) (now high) (now index) used × AllUsed 26 changed used × Bits k (held (now letter) (now low) (now high) used) changed 26 ⌝ }
-    ensures { λ r. ⌜ (r .full ≡ false → Filled 26 k (held (now (letter .entry)) (now (low .entry)) (now (high .entry)) used) (λ g p. bit (touchedBy (netCircuit (now (net .entry))) only (λ n. one k (held (now (letter .entry)) (now (low .entry)) (now (high .entry)) used) (getD changed n 0) p) (netCircuit (now (net .entry)) .transistors) g)) (now (letter .exit)) (now (low .exit)) (now (high .exit)) (now (index .exit)) (r .used) (r .entries)) × (r .full ≡ true → Crowded k (held (now (letter .entry)) (now (low .entry)) (now (high .entry)) used) (now (letter .exit)) (now (low .exit)) (now (high .exit)) (now (index .exit))) ⌝ }
+    ensures { λ r. ⌜ (stopped (r .stop) ≡ false → Filled 26 k (held (now (letter .entry)) (now (low .entry)) (now (high .entry)) used) (λ g p. bit (touchedBy (netCircuit (now (net .entry))) only (λ n. one k (held (now (letter .entry)) (now (low .entry)) (now (high .entry)) used) (getD changed n 0) p) (netCircuit (now (net .entry)) .transistors) g)) (now (letter .exit)) (now (low .exit)) (now (high .exit)) (now (index .exit)) (r .used) (r .entries)) × (stopped (r .stop) ≡ true → Crowded k (held (now (letter .entry)) (now (low .entry)) (now (high .entry)) used) (now (letter .exit)) (now (low .exit)) (now (high .exit)) (now (index .exit))) ⌝ }
 {
     let count = net[net::TRANSISTORS];
     let mut out = [0u32; 26];
@@ -154,9 +160,10 @@ fn touch_groups(
             g,
             only,
         );
-        if p.full {
+        let why = p.stop;
+        if stopped(why) {
             return Many {
-                full: true,
+                stop: why,
                 used: now,
                 entries: out,
             };
@@ -166,7 +173,7 @@ fn touch_groups(
         i += 1;
     }
     Many {
-        full: false,
+        stop: Stop::Going,
         used: now,
         entries: out,
     }
@@ -220,11 +227,11 @@ pub fn touch_all(
     requires { ⌜ Laid (netCircuit (now net)) (now net) ⌝ }
     requires { ⌜ Legible k (now tletter) (now tlow) (now thigh) tused × AllUsed (firstNodeNumber + atPlace (now net) nodesPlace) before tused × Bits k (held (now tletter) (now tlow) (now thigh) tused) before (firstNodeNumber + atPlace (now net) nodesPlace) × Bits k (held (now tletter) (now tlow) (now thigh) tused) after (firstNodeNumber + atPlace (now net) nodesPlace) ⌝ }
     requires { ⌜ Open k (now letter) (now low) (now high) (now index) used × ((n : ℕ) → n < firstNodeNumber + atPlace (now net) nodesPlace → Means k (held (now letter) (now low) (now high) used) (getD values n 0) (numberAt k (held (now tletter) (now tlow) (now thigh) tused) (getD after n 0))) ⌝ }
-    ensures { λ r. ⌜ (r .full ≡ false → Filled 26 k (held (now (letter .entry)) (now (low .entry)) (now (high .entry)) used) (λ g p. bit (touchedLabel (netCircuit (now (net .entry))) (firstNodeNumber + atPlace (now (net .entry)) nodesPlace) k (held (now (tletter .entry)) (now (tlow .entry)) (now (thigh .entry)) tused) before after all only p g)) (now (letter .exit)) (now (low .exit)) (now (high .exit)) (now (index .exit)) (r .used) (r .entries)) × (r .full ≡ true → Crowded k (held (now (letter .entry)) (now (low .entry)) (now (high .entry)) used) (now (letter .exit)) (now (low .exit)) (now (high .exit)) (now (index .exit))) ⌝ }
+    ensures { λ r. ⌜ (stopped (r .stop) ≡ false → Filled 26 k (held (now (letter .entry)) (now (low .entry)) (now (high .entry)) used) (λ g p. bit (touchedLabel (netCircuit (now (net .entry))) (firstNodeNumber + atPlace (now (net .entry)) nodesPlace) k (held (now (tletter .entry)) (now (tlow .entry)) (now (thigh .entry)) tused) before after all only p g)) (now (letter .exit)) (now (low .exit)) (now (high .exit)) (now (index .exit)) (r .used) (r .entries)) × (stopped (r .stop) ≡ true → Crowded k (held (now (letter .entry)) (now (low .entry)) (now (high .entry)) used) (now (letter .exit)) (now (low .exit)) (now (high .exit)) (now (index .exit))) ⌝ }
 {
     if all {
         return Many {
-            full: false,
+            stop: Stop::Going,
             used,
             entries: every_group(only),
         };
@@ -246,7 +253,8 @@ pub fn touch_all(
         values,
         count,
     );
-    if ch.full {
+    let why = ch.stop;
+    if stopped(why) {
         return ch;
     }
     let entries = ch.entries;

@@ -19,7 +19,8 @@ use Rattle.rules.proofs.Time.{least-below, least-own}
 use Rattle.functions.specs.Open.{Legible}
 use Rattle.functions.proofs.Carry.{legible-sound, legible-long, letter-at, low-at, high-at}
 use Rattle.functions.proofs.Reading.{number-leaf}
-use Rattle.record.specs.Numbers.{held, among, allAmong, entryAmong, leastOf}
+use Rattle.diagram.specs.Held.{held}
+use Rattle.record.specs.Numbers.{among, allAmong, entryAmong, leastOf}
 use Rattle.record.proofs.LeastBelow.{least-never, least-greatest}
 
 module _ {letters : ℕ} {l w h : List ℕ} {used : ℕ} (o : Legible letters l w h used) (e : ℕ) (g : e < used) where

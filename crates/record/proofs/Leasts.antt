@@ -16,7 +16,8 @@ use Rattle.diagram.proofs.Number.{numberAt-extends, number-zeroth, number-first
 use Rattle.rules.proofs.Time.{least-below, least-own, least-same}
 use Rattle.functions.specs.Open.{Legible}
 use Rattle.functions.proofs.Reading.{low-earlier, high-earlier}
-use Rattle.record.specs.Numbers.{held, leastOf, leastAmong, leastListed}
+use Rattle.diagram.specs.Held.{held}
+use Rattle.record.specs.Numbers.{leastOf, leastAmong, leastListed}
 use Rattle.record.specs.Leasts.{Leasts}
 use Rattle.record.proofs.Entry.{least-branch}
 

@@ -21,19 +21,19 @@ use Rattle.diagram.specs.Table.{Table, never, numberAt}
 use Rattle.diagram.specs.Operation.{twoValued}
 use Rattle.rules.specs.State.{valueAt, changeAt, nodeNumbers}
 use Rattle.rules.specs.Run.{soonest, patternTime, leastBelow, nextTime, stateOf, timeAfter, neverEntry, timesLegal, inputsRest, runSound}
-use Rattle.rules.specs.Call.{momentGiven}
 use Rattle.rules.proofs.State.{value-place, change-place}
 use Rattle.rules.proofs.Step.{Later}
 use Rattle.rules.proofs.Time.{least-same}
 use Rattle.rules.proofs.Moment.{RunSound, run-record}
-use Rattle.table.specs.Holds.{columns}
 use Rattle.functions.specs.Open.{Legible}
 use Rattle.functions.proofs.Carry.{legible-long}
 use Rattle.net.specs.Net.{nodesPlace, at, netCircuit}
 use Rattle.net.proofs.Laying.{nodes-length}
 use Rattle.record.specs.declared.Run.{Run}
 use Rattle.record.specs.Record.{runOf}
-use Rattle.record.specs.Numbers.{held, among, allAmong, entryAmong, entriesAmong, restsAt, leastAmong, afterNow, scheduledAfter}
+use Rattle.record.specs.Moments.{momentHeld}
+use Rattle.diagram.specs.Held.{held}
+use Rattle.record.specs.Numbers.{among, allAmong, entryAmong, entriesAmong, restsAt, leastAmong, afterNow, scheduledAfter}
 use Rattle.record.proofs.Loops.{every-below}
 use Rattle.record.proofs.LeastBelow.{least-never, least-min, least-constant, least-swap, soonest-at}
 use Rattle.record.proofs.Net.{input-at, times, times-count, time-at, inputs-below}
@@ -169,7 +169,7 @@ module _ (net l w h : List ℕ) (r : Run) (values-long : length (r .values) ≡ 
     put = soonest-at (r .time) _ _ (times net) (times-count net) (λ i k. ap (afterNow (r .time)) (time-at net i k))
 
     -- the time of the next step: the least pending number, or the earliest time of the schedule
-    pub time-is : min (leastAmong (c .letters) t (r .changes) (at net nodesPlace)) (scheduledAfter net (r .time)) ≡ timeAfter c (momentGiven (columns l w h) (runOf c r))
+    pub time-is : min (leastAmong (c .letters) t (r .changes) (at net nodesPlace)) (scheduledAfter net (r .time)) ≡ timeAfter c (momentHeld l w h (runOf c r))
     unfolding timeAfter nextTime patternTime stateOf number-of
     time-is =
         let m : ℕ = patterns (c .letters) in

@@ -1,3 +1,4 @@
 pub mod Record
 pub mod Numbers
 pub mod Leasts
+pub mod Moments

@@ -8,14 +8,8 @@ use Rattle.lists.specs.Tests.{below}
 use Rattle.format.specs.Legal.{input}
 use Rattle.diagram.specs.Pattern.{patterns}
 use Rattle.diagram.specs.Table.{Table, never, numberAt}
-use Rattle.diagram.specs.Call.{tableOf}
-use Rattle.table.specs.Holds.{columns}
 use Rattle.rules.specs.Run.{leastBelow, neverEntry}
 use Rattle.net.specs.Net.{entriesPlace, rolePlace, timePlace, at}
-
--- the table in three columns
-abbrev pub held : List ℕ → List ℕ → List ℕ → ℕ → Table
-held l w h used = tableOf (columns l w h) used
 
 -- a number is later than one and at most another, or is a third
 abbrev pub among : ℕ → ℕ → ℕ → ℕ → Bool

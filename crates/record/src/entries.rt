@@ -3,7 +3,7 @@ use functions::numbers;
 ghost use mathlib.Core.Path.{_≡_};
 ghost use Prim.Native.Nat.{_<_, _≤_};
 ghost use Rattle.functions.specs.Open.{Legible};
-ghost use Rattle.record.specs.Numbers.{held};
+ghost use Rattle.diagram.specs.Held.{held};
 ghost use Rattle.record.specs.Numbers as defined;
 
 fn among(after: u32, most: u32, other: u32, x: u32) -> bool

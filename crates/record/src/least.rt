@@ -4,7 +4,8 @@ ghost use mathlib.Core.Path.{_≡_};
 ghost use Prim.Native.Nat.{ℕ, _<_, _≤_};
 ghost use lib.ListN.{length, getD};
 ghost use Rattle.functions.specs.Open.{Legible};
-ghost use Rattle.record.specs.Numbers.{held, leastOf, leastListed};
+ghost use Rattle.diagram.specs.Held.{held};
+ghost use Rattle.record.specs.Numbers.{leastOf, leastListed};
 ghost use Rattle.record.specs.Leasts.{Leasts};
 
 // The least number of entry `e`, by those of the entries before it.

@@ -7,19 +7,19 @@ mod places;
 
 use functions::numbers;
 use functions::read;
+use net::quantities::horizon;
 ghost use mathlib.Core.Path.{_≡_};
 ghost use mathlib.Core.Bool.{true};
 ghost use Prim.Native.Nat.{_+_, _<_, _≤_};
 ghost use lib.ListN.{length};
 ghost use Rattle.rules.specs.State.{valueAt, changeAt};
 ghost use Rattle.rules.specs.Run.{stateOf, timeAfter, runSound};
-ghost use Rattle.rules.specs.Call.{momentGiven};
-ghost use Rattle.table.specs.Holds.{columns};
 ghost use Rattle.functions.specs.Open.{Legible};
 ghost use Rattle.net.specs.Laid.{Laid};
 ghost use Rattle.net.specs.Net.{nodesPlace, lettersPlace, at, netCircuit};
 ghost use Rattle.record.specs.Record.{runOf};
-ghost use Rattle.record.specs.Numbers.{held};
+ghost use Rattle.record.specs.Moments.{momentHeld};
+ghost use Rattle.diagram.specs.Held.{held};
 ghost use Rattle.record.specs.Leasts.{Leasts};
 
 // The time, the used count, and for each node record the entries of its value and of its next change. Places past the node
@@ -45,12 +45,13 @@ pub fn run_sound(net: &[u32], letter: &[u32], low: &[u32], high: &[u32], r: Run)
 {
     let n = net[net::NODES];
     let k = net[net::LETTERS];
-    let horizon = net[net::HORIZON];
+    let last = horizon(net);
+    let most = last.0 as u32;
     let time = r.time;
     let used = r.used;
     let values = r.values;
     let changes = r.changes;
-    if horizon < time {
+    if most < time {
         return false;
     }
     if !entries::entries_among(letter, low, high, used, k, values, n, 0, 1, 0) {
@@ -65,7 +66,7 @@ pub fn run_sound(net: &[u32], letter: &[u32], low: &[u32], high: &[u32], r: Run)
         changes,
         n,
         time,
-        horizon,
+        most,
         numbers::NEVER,
     ) {
         return false;
@@ -85,7 +86,7 @@ pub fn time_after(
 ) -> u32
     requires { ⌜ Laid (netCircuit (now net)) (now net) × Legible (at (now net) lettersPlace) (now letter) (now low) (now high) (r .used) × (runSound (netCircuit (now net)) (held (now letter) (now low) (now high) (r .used)) (runOf (netCircuit (now net)) r) ≡ true) ⌝ }
     requires { ⌜ (done ≤ r .used) × (r .used ≤ length (now least)) × Leasts (at (now net) lettersPlace) (held (now letter) (now low) (now high) (r .used)) done (now least) ⌝ }
-    ensures { λ x. ⌜ (x ≡ timeAfter (netCircuit (now (net .entry))) (momentGiven (columns (now (letter .entry)) (now (low .entry)) (now (high .entry))) (runOf (netCircuit (now (net .entry))) r))) × (length (now (least .exit)) ≡ length (now (least .entry))) × Leasts (at (now (net .entry)) lettersPlace) (held (now (letter .entry)) (now (low .entry)) (now (high .entry)) (r .used)) (r .used) (now (least .exit)) ⌝ }
+    ensures { λ x. ⌜ (x ≡ timeAfter (netCircuit (now (net .entry))) (momentHeld (now (letter .entry)) (now (low .entry)) (now (high .entry)) (runOf (netCircuit (now (net .entry))) r))) × (length (now (least .exit)) ≡ length (now (least .entry))) × Leasts (at (now (net .entry)) lettersPlace) (held (now (letter .entry)) (now (low .entry)) (now (high .entry)) (r .used)) (r .used) (now (least .exit)) ⌝ }
 {
     let n = net[net::NODES];
     let k = net[net::LETTERS];

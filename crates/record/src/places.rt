@@ -1,7 +1,10 @@
 // What is read off the cell's flat column: which node records are inputs, and the times of the schedule.
 use functions::numbers;
+use net::quantities::entry_time;
+use units::Picoseconds;
 ghost use mathlib.Core.Path.{_≡_};
 ghost use mathlib.Core.Bool.{not, _||_};
+ghost use Prim.Native.Nat.{_<_, _^_};
 ghost use Rattle.format.specs.Legal.{input};
 ghost use Rattle.rules.specs.Run.{neverEntry};
 ghost use Rattle.lists.specs.Tests.{below};
@@ -37,10 +40,16 @@ pub fn inputs_rest(net: &[u32], changes: [u32; 24]) -> bool
     true
 }
 
-fn after_now(present: u32, time: u32) -> u32
-    ensures { λ r. ⌜ r ≡ afterNow present time ⌝ }
+fn after_now(present: u32, time: Picoseconds) -> u32
+    requires { ⌜ time .0 < 2 ^ 32 ⌝ }
+    ensures { λ r. ⌜ r ≡ afterNow present (time .0) ⌝ }
 {
-    if present < time { time } else { numbers::NEVER }
+    let then = time.0;
+    if (present as u64) < then {
+        then as u32
+    } else {
+        numbers::NEVER
+    }
 }
 
 // The earliest time of the schedule after the present time, or never.
@@ -52,7 +61,7 @@ pub fn scheduled_after(net: &[u32], present: u32) -> u32
     let mut earliest = numbers::NEVER;
     let mut i = 0;
     while i < n {
-        earliest = numbers::least(earliest, after_now(present, net[net::TIME + i]));
+        earliest = numbers::least(earliest, after_now(present, entry_time(net, i)));
         i += 1;
     }
     earliest

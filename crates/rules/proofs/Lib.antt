@@ -6,6 +6,7 @@ pub mod Time
 pub mod StoreAll
 pub mod Moment
 pub mod Readable
+pub mod Admitted
 pub mod RunSteps
 pub mod Cases
 pub mod Mistakes

@@ -8,7 +8,8 @@ use Rattle.diagram.specs.Table.{numberFrom}
 use Rattle.diagram.specs.Sound as sound
 use Rattle.diagram.specs.Store.{find, add, join, both, store}
 use Rattle.diagram.specs.Operation.{twoValued}
-use Rattle.diagram.specs.Call.{entries, columnsOf, allBlank, columnsSound}
+use Rattle.diagram.specs.Call.{columnsOf, columnsSound}
+use Rattle.diagram.specs.Held.{entries, allBlank, heldSound}
 use Rattle.rules.specs.State.{upFrom}
 use Rattle.rules.specs.Arrive.{sourceAt, scheduled, arrived}
 use Rattle.rules.specs.Group.{linkFrom, groups, some, touched}
@@ -20,5 +21,5 @@ use Rattle.rules.specs.Run.{soonest, patternTime, leastBelow, nextTime, 
 use Rattle.rules.specs.Call.{startCall, stepCall}
 
 unfoldable pub opened : Unit {0}
-unfolding ceilDiv parallel armSide share delay every limitsKept nodeLegal transistorLegal entryLegal fieldsLegal risingFrom rising checkCircuit numberFrom sound.entryLegal sound.distinct sound.fixedTerminals sound.sound find add join both store below twoValued entries columnsOf allBlank columnsSound upFrom sourceAt scheduled arrived linkFrom groups some touched keptFrom kept overArms nodeSum newValue nodeLoad target delayTo nextChange stepped initial started soonest patternTime leastBelow nextTime stateOf storeAll momentOf startMoment timeAfter stepMoment timesLegal inputsRest runSound startCall stepCall file.zeroBytes file.fileHeader file.headerLegal file.chain file.nodeAt file.transistorAt file.entryAt file.nodeBlank file.transistorBlank file.entryBlank file.fileCircuit file.readFields file.readChains file.readCell
+unfolding ceilDiv parallel armSide share delay every limitsKept nodeLegal transistorLegal entryLegal fieldsLegal risingFrom rising checkCircuit numberFrom sound.entryLegal sound.distinct sound.fixedTerminals sound.sound find add join both store below twoValued entries columnsOf allBlank heldSound upFrom sourceAt scheduled arrived linkFrom groups some touched keptFrom kept overArms nodeSum newValue nodeLoad target delayTo nextChange stepped initial started soonest patternTime leastBelow nextTime stateOf storeAll momentOf startMoment timeAfter stepMoment timesLegal inputsRest runSound startCall stepCall file.zeroBytes file.fileHeader file.headerLegal file.chain file.nodeAt file.transistorAt file.entryAt file.nodeBlank file.transistorBlank file.entryBlank file.fileCircuit file.readFields file.readChains file.readCell
 opened = tt

@@ -14,15 +14,17 @@ use Rattle.format.specs.Circuit.{Circuit, firstNodeNumber}
 use Rattle.format.specs.Legal.{checkCircuit}
 use Rattle.diagram.specs.Pattern.{mostLetters, patterns}
 use Rattle.diagram.specs.Table.{Table, never, numberAt}
-use Rattle.diagram.specs.Call.{Columns, leastEntries, mostEntries, lengthsLegal, tableOf, columnsOf, columnsSound}
+use Rattle.diagram.specs.Call.{Columns, lengthsLegal, tableOf, columnsOf, columnsSound}
+use Rattle.diagram.specs.Held.{leastEntries, mostEntries}
 use Rattle.diagram.proofs.Sound.{Sound}
 use Rattle.diagram.proofs.Add.{Extends}
 use Rattle.diagram.proofs.Number.{numberAt-extends}
 use Rattle.diagram.proofs.Columns.{Lengths, ColumnsSound, lengths-record, lengths-test, columns-record, columns-test, columns-sound, columns-length, columns-lengths, columns-table, table-columns, table-length}
 use Rattle.rules.specs.State.{State, valueAt, changeAt}
-use Rattle.rules.specs.Run.{Run, Moment, stateOf, nextTime, timeAfter, stepMoment, fitting, runMoment, runSound}
+use Rattle.rules.specs.Run.{Run, Moment, stateOf, nextTime, timeAfter, runMoment, runSound}
 use Rattle.rules.specs.Call.{workingLegal, momentGiven, soundTogether, stepCall, runCall, Wire, askCall}
 use Rattle.rules.proofs.Moment.{RunSound, run-record, run-test, SoundMoment, legal-few}
+use Rattle.rules.proofs.Admitted.{admitting}
 
 -- the moment that sound columns and a run record give is sound
 pub given-sound : (c : Circuit) (table : Columns) (r : Run) → lengthsLegal table ≡ true → soundTogether c table r ≡ true → SoundMoment c (momentGiven table r)
@@ -126,7 +128,7 @@ module _ {c : Circuit} {m : Moment} (s : SoundMoment c m) (size : ℕ) (least : 
   lengths-both = and-both (lengthsLegal (columnsOf size (m .table))) (workingLegal working) (held-lengths s size fits least most) legal
 
   -- a step of a held moment
-  pub held-step : stepCall (answered c) (columnsOf size (m .table)) (m .run) working ≡ check (ltb (timeAfter c m) never) Finished (fitting size (stepMoment c m))
+  pub held-step : stepCall (answered c) (columnsOf size (m .table)) (m .run) working ≡ check (ltb (timeAfter c m) never) Finished (admitting c size m)
   unfolding stepCall
   held-step = rw (lengths-both, held-sound s size fits, held-given s size fits, columns-length size (m .table) fits)
 

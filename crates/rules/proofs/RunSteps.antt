@@ -8,7 +8,6 @@ use lib.ListN.{length}
 use lib.Dec.{ltb}
 use borrow.Author.Tests.{lt-ltb, le-ltb, le-leb, lt-leb}
 use Rattle.refusal.specs.declared.Refusal.{Refusal}
-use Rattle.refusal.specs.declared.Refusal.the-variants.{Full}
 use Rattle.refusal.specs.Answer.{Answer, refused, answered}
 use Rattle.refusal.proofs.Answer.{refused-not-answered, same-answer}
 use Rattle.lists.proofs.Cases.{lt-or-ge}
@@ -17,8 +16,9 @@ use Rattle.format.specs.Legal.{checkCircuit}
 use Rattle.format.proofs.Legal.{legal-limits}
 use Rattle.diagram.specs.Table.{never}
 use Rattle.diagram.proofs.Add.{Extends, extends-refl, extends-trans}
-use Rattle.rules.specs.Run.{Moment, timeAfter, stepMoment, fitting, continued, runMoment}
+use Rattle.rules.specs.Run.{Moment, timeAfter, stepMoment, continued, runMoment}
 use Rattle.rules.proofs.Moment.{SoundMoment, time-never, time-within, step-time, step-sound, step-extends}
+use Rattle.rules.proofs.Admitted.{Admitted, Barred, admitting, admitted-or-barred, admitted-answer, barred-answer}
 
 -- a moment has no next step up to a picosecond
 abbrev pub Rests : Circuit → ℕ → Moment → Type 0
@@ -38,22 +38,14 @@ takes-or-rests c until m =
     (λ (g : never ≤ timeAfter c m). inr (inl (omega (arith, time-never c m))))
     (lt-or-ge (timeAfter c m) never)
 
--- steps up to a picosecond, each of which fits into a table
+-- steps up to a picosecond, each of which is admitted into a table
 pub data Steps (c : Circuit) (until size : ℕ) : Moment → Moment → Type 0 where
   stays : {m : Moment} → Steps c until size m m
-  goes : {m after : Moment} → Takes c until m → length (stepMoment c m .table) ≤ size → Steps c until size (stepMoment c m) after → Steps c until size m after
+  goes : {m after : Moment} → Takes c until m → Admitted c size m → Steps c until size (stepMoment c m) after → Steps c until size m after
 
 -- two refusals that are equal have equal reasons
 same-refusal : {A : Type 0} {a b : Refusal} → _≡_ {A = Answer A} (refused a) (refused b) → a ≡ b
 same-refusal e = cc
-
--- what fits is kept
-pub fitting-fits : (size : ℕ) (m : Moment) → length (m .table) ≤ size → fitting size m ≡ answered m
-fitting-fits size m h = rw (le-leb (length (m .table)) size h)
-
--- what does not is refused
-pub fitting-full : (size : ℕ) (m : Moment) → size < length (m .table) → fitting size m ≡ refused Full
-fitting-full size m h = rw (lt-leb (length (m .table)) size h)
 
 module _ (c : Circuit) (until size : ℕ) where
   -- with no step to take, a run is answered and changes nothing
@@ -64,15 +56,15 @@ module _ (c : Circuit) (until size : ℕ) where
   run-rests (suc n) m (inr l) = rw (lt-leb (timeAfter c m) until l, and-false (ltb (timeAfter c m) never))
 
   -- else it takes the step and goes on
-  pub run-takes : (n : ℕ) (m : Moment) → Takes c until m → runMoment (suc n) c until size m ≡ continued (fitting size (stepMoment c m)) (runMoment n c until size)
+  pub run-takes : (n : ℕ) (m : Moment) → Takes c until m → runMoment (suc n) c until size m ≡ continued (admitting c size m) (runMoment n c until size)
   unfolding runMoment
   run-takes n m t = rw (lt-ltb (timeAfter c m) never (t .more), le-leb (timeAfter c m) until (t .reach))
 
-  run-fits : (n : ℕ) (m : Moment) → Takes c until m → length (stepMoment c m .table) ≤ size → runMoment (suc n) c until size m ≡ runMoment n c until size (stepMoment c m)
-  run-fits n m t l = run-takes n m t ∙ ap (λ (a : Answer Moment). continued a (runMoment n c until size)) (fitting-fits size (stepMoment c m) l)
+  run-admitted : (n : ℕ) (m : Moment) → Takes c until m → Admitted c size m → runMoment (suc n) c until size m ≡ runMoment n c until size (stepMoment c m)
+  run-admitted n m t a = run-takes n m t ∙ ap (λ (x : Answer Moment). continued x (runMoment n c until size)) (admitted-answer a)
 
-  run-full : (n : ℕ) (m : Moment) → Takes c until m → size < length (stepMoment c m .table) → runMoment (suc n) c until size m ≡ refused Full
-  run-full n m t l = run-takes n m t ∙ ap (λ (a : Answer Moment). continued a (runMoment n c until size)) (fitting-full size (stepMoment c m) l)
+  run-barred : (n : ℕ) (m : Moment) {why : Refusal} → Takes c until m → Barred c size m why → runMoment (suc n) c until size m ≡ refused why
+  run-barred n m t b = run-takes n m t ∙ ap (λ (x : Answer Moment). continued x (runMoment n c until size)) (barred-answer b)
 
   run-zero : (m : Moment) → runMoment zero c until size m ≡ answered m
   unfolding runMoment
@@ -85,44 +77,44 @@ module _ (c : Circuit) (until size : ℕ) where
       ⊎-elim
       (λ (t : Takes c until m).
       ⊎-elim
-      (λ (l : size < length (stepMoment c m .table)). refused-not-answered (sym (run-full n m t l) ∙ e))
-      (λ (l : length (stepMoment c m .table) ≤ size). goes t l (run-steps n (stepMoment c m) after (sym (run-fits n m t l) ∙ e)))
-      (lt-or-ge size (length (stepMoment c m .table))))
+      (λ (a : Admitted c size m). goes t a (run-steps n (stepMoment c m) after (sym (run-admitted n m t a) ∙ e)))
+      (λ (b : (why : Refusal) × Barred c size m why). refused-not-answered (sym (run-barred n m t (b .1)) ∙ e))
+      (admitted-or-barred c size m))
       (λ (r : Rests c until m). subst (Steps c until size m) (same-answer (sym (run-rests (suc n) m r) ∙ e)) stays)
       (takes-or-rests c until m)
 
-  -- a refused run met a step that does not fit
+  -- a refused run met a step that is barred, and has its number
   pub run-refused : (n : ℕ) (m : Moment) (why : Refusal) → runMoment n c until size m ≡ refused why
-      → (why ≡ Full) × (last : Moment) × Steps c until size m last × Takes c until last × (size < length (stepMoment c last .table))
+      → (last : Moment) × Steps c until size m last × Takes c until last × Barred c size last why
   run-refused zero m why e = refused-not-answered (sym e ∙ run-zero m)
   run-refused (suc n) m why e =
       ⊎-elim
       (λ (t : Takes c until m).
       ⊎-elim
-      (λ (l : size < length (stepMoment c m .table)). (same-refusal (sym e ∙ run-full n m t l), m, stays, t, l))
-      (λ (l : length (stepMoment c m .table) ≤ size).
-      let deeper : (why ≡ Full) × (last : Moment) × Steps c until size (stepMoment c m) last × Takes c until last × (size < length (stepMoment c last .table)) =
-      run-refused n (stepMoment c m) why (sym (run-fits n m t l) ∙ e) in
-      (deeper .0, deeper .1, goes t l (deeper .2), deeper .3, deeper .4))
-      (lt-or-ge size (length (stepMoment c m .table))))
+      (λ (a : Admitted c size m).
+      let deeper : (last : Moment) × Steps c until size (stepMoment c m) last × Takes c until last × Barred c size last why =
+      run-refused n (stepMoment c m) why (sym (run-admitted n m t a) ∙ e) in
+      (deeper .0, goes t a (deeper .1), deeper .2, deeper .3))
+      (λ (b : (other : Refusal) × Barred c size m other). (m, stays, t, subst (Barred c size m) (same-refusal (sym (run-barred n m t (b .1)) ∙ e)) (b .1)))
+      (admitted-or-barred c size m))
       (λ (r : Rests c until m). refused-not-answered (sym e ∙ run-rests (suc n) m r))
       (takes-or-rests c until m)
 
   -- what holds before and is kept by each step holds after
-  pub steps-keep : (P : Moment → Type 0) → ((m : Moment) → P m → Takes c until m → length (stepMoment c m .table) ≤ size → P (stepMoment c m))
+  pub steps-keep : (P : Moment → Type 0) → ((m : Moment) → P m → Takes c until m → Admitted c size m → P (stepMoment c m))
       → {m after : Moment} → Steps c until size m after → P m → P after
   steps-keep P keep stays h = h
-  steps-keep P keep (goes {m = m} t l rest) h = steps-keep P keep rest (keep m h t l)
+  steps-keep P keep (goes {m = m} t a rest) h = steps-keep P keep rest (keep m h t a)
 
   -- no step, or a last one, whose moment is left
   pub steps-last : {m after : Moment} → Steps c until size m after → (after ≡ m) ⊎ ((last : Moment) × Steps c until size m last × Takes c until last × (after ≡ stepMoment c last))
   steps-last stays = inl refl
-  steps-last (goes {m = m} {after = after} t l rest) = inr (from (steps-last rest))
+  steps-last (goes {m = m} {after = after} t a rest) = inr (from (steps-last rest))
     where
       from : (after ≡ stepMoment c m) ⊎ ((last : Moment) × Steps c until size (stepMoment c m) last × Takes c until last × (after ≡ stepMoment c last))
           → (last : Moment) × Steps c until size m last × Takes c until last × (after ≡ stepMoment c last)
       from (inl e) = (m, stays, t, e)
-      from (inr deeper) = (deeper .0, goes t l (deeper .1), deeper .2, deeper .3)
+      from (inr deeper) = (deeper .0, goes t a (deeper .1), deeper .2, deeper .3)
 
   -- so the time is as it was, or that of the last step, which is not later than asked
   pub steps-time : {m after : Moment} → Steps c until size m after
@@ -135,26 +127,26 @@ module _ (c : Circuit) (until size : ℕ) where
 
   -- a time not later than asked stays so
   pub steps-until : {m after : Moment} → Steps c until size m after → m .run .time ≤ until → after .run .time ≤ until
-  steps-until steps h = steps-keep (λ (m : Moment). m .run .time ≤ until) (λ m k t l. omega (arith, step-time c m, t .reach)) steps h
+  steps-until steps h = steps-keep (λ (m : Moment). m .run .time ≤ until) (λ m k t a. omega (arith, step-time c m, t .reach)) steps h
 
   -- each step fits, so what is left does
   pub steps-fit : {m after : Moment} → Steps c until size m after → length (m .table) ≤ size → length (after .table) ≤ size
-  steps-fit steps h = steps-keep (λ (m : Moment). length (m .table) ≤ size) (λ m k t l. l) steps h
+  steps-fit steps h = steps-keep (λ (m : Moment). length (m .table) ≤ size) (λ m k t a. a .fits) steps h
 
   -- steps and steps after them
   pub steps-trans : {m between after : Moment} → Steps c until size m between → Steps c until size between after → Steps c until size m after
   steps-trans stays next = next
-  steps-trans (goes t l rest) next = goes t l (steps-trans rest next)
+  steps-trans (goes t a rest) next = goes t a (steps-trans rest next)
 
 module _ {c : Circuit} (legal : checkCircuit c ≡ answered c) (until size : ℕ) where
   -- sound moments stay sound
   pub steps-sound : {m after : Moment} → Steps c until size m after → SoundMoment c m → SoundMoment c after
-  steps-sound steps s = steps-keep c until size (SoundMoment c) (λ m k t l. step-sound legal k (t .more)) steps s
+  steps-sound steps s = steps-keep c until size (SoundMoment c) (λ m k t a. step-sound legal k (t .more)) steps s
 
   -- and no entry is taken away
   pub steps-extend : {m after : Moment} → Steps c until size m after → SoundMoment c m → Extends (m .table) (after .table)
   steps-extend stays s = extends-refl _
-  steps-extend (goes t l rest) s = extends-trans (step-extends legal s) (steps-extend rest (step-sound legal s (t .more)))
+  steps-extend (goes t a rest) s = extends-trans (step-extends legal s) (steps-extend rest (step-sound legal s (t .more)))
 
   -- at the horizon there is no step left
   spent : (m : Moment) → SoundMoment c m → c .horizon .0 ≤ m .run .time → Rests c until m
@@ -175,12 +167,12 @@ module _ {c : Circuit} (legal : checkCircuit c ≡ answered c) (until size : ℕ
       let w = time-within legal s (t .more) in
       let e = step-time c m in
       ⊎-elim
-      (λ (l : size < length (stepMoment c m .table)). run-full c until size a m t l ∙ sym (run-full c until size b m t l))
-      (λ (l : length (stepMoment c m .table) ≤ size).
-      run-fits c until size a m t l
+      (λ (admitted : Admitted c size m).
+      run-admitted c until size a m t admitted
       ∙ allowance-same a b (stepMoment c m) (step-sound legal s (t .more)) (omega arith) (omega arith)
-      ∙ sym (run-fits c until size b m t l))
-      (lt-or-ge size (length (stepMoment c m .table))))
+      ∙ sym (run-admitted c until size b m t admitted))
+      (λ (barred : (why : Refusal) × Barred c size m why). run-barred c until size a m t (barred .1) ∙ sym (run-barred c until size b m t (barred .1)))
+      (admitted-or-barred c size m))
       (λ (r : Rests c until m). run-rests c until size (suc a) m r ∙ sym (run-rests c until size (suc b) m r))
       (takes-or-rests c until m)
 
@@ -197,9 +189,9 @@ module _ {c : Circuit} (legal : checkCircuit c ≡ answered c) (until size : ℕ
       let w = time-within legal s (t .more) in
       let q = step-time c m in
       ⊎-elim
-      (λ (l : size < length (stepMoment c m .table)). refused-not-answered (sym (run-full c until size n m t l) ∙ e))
-      (λ (l : length (stepMoment c m .table) ≤ size). run-done n (stepMoment c m) after (step-sound legal s (t .more)) (omega arith) (sym (run-fits c until size n m t l) ∙ e))
-      (lt-or-ge size (length (stepMoment c m .table))))
+      (λ (a : Admitted c size m). run-done n (stepMoment c m) after (step-sound legal s (t .more)) (omega arith) (sym (run-admitted c until size n m t a) ∙ e))
+      (λ (b : (why : Refusal) × Barred c size m why). refused-not-answered (sym (run-barred c until size n m t (b .1)) ∙ e))
+      (admitted-or-barred c size m))
       (λ (r : Rests c until m). subst (Rests c until) (same-answer (sym (run-rests c until size (suc n) m r) ∙ e)) r)
       (takes-or-rests c until m)
 
@@ -218,7 +210,7 @@ ran c until size m = runMoment (c .horizon .0) c until size m
 
 module _ {c : Circuit} (legal : checkCircuit c ≡ answered c) (until size : ℕ) {m : Moment} (s : SoundMoment c m) where
   -- where there is a step to take, the run is that step and then the same run
-  pub run-next : Takes c until m → ran c until size m ≡ continued (fitting size (stepMoment c m)) (ran c until size)
+  pub run-next : Takes c until m → ran c until size m ≡ continued (admitting c size m) (ran c until size)
   run-next t =
       let h : ℕ = c .horizon .0 - 1 in
       let one : c .horizon .0 ≡ suc h = omega (arith, legal-limits legal .least-horizon) in
@@ -227,17 +219,17 @@ module _ {c : Circuit} (legal : checkCircuit c ≡ answered c) (until size : ℕ
       ap (λ (n : ℕ). runMoment n c until size m) one
       ∙ run-takes c until size h m t
       ∙ ⊎-elim
-      (λ (l : size < length (stepMoment c m .table)). alike h (fitting-full size (stepMoment c m) l))
-      (λ (l : length (stepMoment c m .table) ≤ size).
-      ap (λ (a : Answer Moment). continued a (runMoment h c until size)) (fitting-fits size (stepMoment c m) l)
+      (λ (a : Admitted c size m).
+      ap (λ (x : Answer Moment). continued x (runMoment h c until size)) (admitted-answer a)
       ∙ allowance-same legal until size h (c .horizon .0) (stepMoment c m) (step-sound legal s (t .more)) (omega arith) (omega arith)
-      ∙ ap (λ (a : Answer Moment). continued a (ran c until size)) (sym (fitting-fits size (stepMoment c m) l)))
-      (lt-or-ge size (length (stepMoment c m .table)))
+      ∙ ap (λ (x : Answer Moment). continued x (ran c until size)) (sym (admitted-answer a)))
+      (λ (b : (why : Refusal) × Barred c size m why). alike h (barred-answer (b .1)))
+      (admitted-or-barred c size m)
     where
-      alike : (n : ℕ) → fitting size (stepMoment c m) ≡ refused Full
-          → continued (fitting size (stepMoment c m)) (runMoment n c until size) ≡ continued (fitting size (stepMoment c m)) (ran c until size)
+      alike : (n : ℕ) {why : Refusal} → admitting c size m ≡ refused why
+          → continued (admitting c size m) (runMoment n c until size) ≡ continued (admitting c size m) (ran c until size)
       alike n e =
-          ap (λ (a : Answer Moment). continued a (runMoment n c until size)) e ∙ sym (ap (λ (a : Answer Moment). continued a (ran c until size)) e)
+          ap (λ (x : Answer Moment). continued x (runMoment n c until size)) e ∙ sym (ap (λ (x : Answer Moment). continued x (ran c until size)) e)
 
   -- an answered run took its steps, and no step up to the picosecond is left
   pub run-exact : (after : Moment) → ran c until size m ≡ answered after → Steps c until size m after × Rests c until after
@@ -253,9 +245,9 @@ module _ {c : Circuit} (legal : checkCircuit c ≡ answered c) (until size : ℕ
 pub steps-run : {c : Circuit} (legal : checkCircuit c ≡ answered c) (until size : ℕ) {m after : Moment} → Steps c until size m after → SoundMoment c m → Rests c until after
     → ran c until size m ≡ answered after
 steps-run {c} legal until size {m} stays s r = run-rests c until size (c .horizon .0) m r
-steps-run {c} legal until size (goes {m = m} t l rest) s r =
+steps-run {c} legal until size (goes t a rest) s r =
     run-next legal until size s t
-    ∙ ap (λ (a : Answer Moment). continued a (ran c until size)) (fitting-fits size (stepMoment c m) l)
+    ∙ ap (λ (x : Answer Moment). continued x (ran c until size)) (admitted-answer a)
     ∙ steps-run legal until size rest (step-sound legal s (t .more)) r
 
 -- so every picosecond from the horizon on is the same to a run
@@ -267,10 +259,10 @@ run-beyond {c} legal until size h (suc n) {m} s =
     (λ (t : Takes c (c .horizon .0) m).
     let u : Takes c until m = record { more = t .more; reach = omega (arith, t .reach) } in
     ⊎-elim
-    (λ (l : size < length (stepMoment c m .table)). run-full c until size n m u l ∙ sym (run-full c (c .horizon .0) size n m t l))
-    (λ (l : length (stepMoment c m .table) ≤ size).
-    run-fits c until size n m u l ∙ run-beyond legal until size h n (step-sound legal s (t .more)) ∙ sym (run-fits c (c .horizon .0) size n m t l))
-    (lt-or-ge size (length (stepMoment c m .table))))
+    (λ (a : Admitted c size m).
+    run-admitted c until size n m u a ∙ run-beyond legal until size h n (step-sound legal s (t .more)) ∙ sym (run-admitted c (c .horizon .0) size n m t a))
+    (λ (b : (why : Refusal) × Barred c size m why). run-barred c until size n m u (b .1) ∙ sym (run-barred c (c .horizon .0) size n m t (b .1)))
+    (admitted-or-barred c size m))
     (λ (r : Rests c (c .horizon .0) m).
     let z : timeAfter c m ≡ never = rests-beyond legal (c .horizon .0) (omega arith) s r in
     run-rests c until size (suc n) m (inl z) ∙ sym (run-rests c (c .horizon .0) size (suc n) m (inl z)))

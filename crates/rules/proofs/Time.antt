@@ -70,6 +70,14 @@ soonest-is now (t ∷ ts) =
     later (inl e) = inl e
     later (inr a) = inr (suc (a .0), omega (arith, a .1), a .2, a .3)
 
+-- it is not before now
+soonest-after : (now : ℕ) (times : List ℕ) → now ≤ never → now ≤ soonest now times
+soonest-after now times h =
+    ⊎-elim
+    (λ (e : soonest now times ≡ never). omega arith)
+    (λ (a : Among now times (soonest now times)). omega (arith, a .2))
+    (soonest-is now times)
+
 -- a next change of the pattern, or an entry's time, is T, after now
 abbrev pub Due : Circuit → ℕ → State → ℕ → Type 0
 Due c now s time =
@@ -95,6 +103,11 @@ module _ (c : Circuit) (now : ℕ) (s : State) where
   pub pattern-never : patternTime c now s ≤ never
   unfolding patternTime
   pattern-never = omega (arith, soonest-never now (s .changes))
+
+  -- and not before now
+  pub pattern-after : now ≤ never → now ≤ patternTime c now s
+  unfolding patternTime
+  pattern-after h = omega (arith, soonest-after now (s .changes) h, soonest-after now (times c) h)
 
   -- it is at most each entry's time after now
   pub pattern-entry : (i : ℕ) → i < length (c .schedule) → now < getD (c .schedule) i noEntry .time .0 → patternTime c now s ≤ getD (c .schedule) i noEntry .time .0

@@ -9,7 +9,7 @@ use Rattle.refusal.specs.Answer.{Answer, refused, answered, check}
 use Rattle.format.specs.Circuit.{Circuit, firstNodeNumber}
 use Rattle.diagram.specs.Pattern.{patterns}
 use Rattle.diagram.specs.Table.{never}
-use Rattle.diagram.specs.Call.{Columns, mostEntries, lengthsLegal, columnsSound, tableOf}
+use Rattle.diagram.specs.Call.{Columns, lengthsLegal, columnsSound, tableOf}
 use Rattle.rules.specs.State.{valueAt, changeAt}
 use Rattle.rules.specs.Run.{Run, Moment, stateOf, startMoment, timeAfter, stepMoment, fitting, runMoment, runSound}
 

@@ -17,11 +17,12 @@ use Rattle.format.specs.Circuit.{Circuit}
 use Rattle.cell.specs.declared.Cell.{Cell}
 use Rattle.cell.specs.Value.{cellBy}
 use Rattle.diagram.specs.Table.{never}
-use Rattle.diagram.specs.Call.{Columns, lengthsLegal, columnsSound, tableOf}
+use Rattle.diagram.specs.Call.{columns, Columns, lengthsLegal, columnsSound, tableOf}
 use Rattle.diagram.proofs.Columns.{columns-path}
 use Rattle.rules.specs.Run.{Moment, startMoment, timeAfter, stepMoment, fitting, continued, runMoment}
 use Rattle.rules.specs.Call.{leastWorking, workingLegal, momentGiven, soundTogether, startCall, stepCall, runCall}
-use Rattle.table.specs.Holds.{columns, zeroFrom}
+use Rattle.rules.proofs.Admitted.{admitting}
+use Rattle.table.specs.Holds.{zeroFrom}
 use Rattle.record.specs.declared.Run.{Run}
 use Rattle.advance.specs.declared.Task.{Task}
 use Rattle.advance.specs.declared.Task.the-variants.{Start, Step, Until}
@@ -68,6 +69,9 @@ task-refused why (Until time) table r working e = rw e
 fitting-other : (size : ℕ) (m : Moment) → Other (fitting size m)
 fitting-other size m = check-other (leb (length (m .table)) size) Full (answered m) refl (answered-other m)
 
+step-other : (c : Circuit) (size : ℕ) (m : Moment) → Other (admitting c size m)
+step-other c size m = fitting-other size (stepMoment c m)
+
 cond-other : {A : Type 0} (t : Bool) (a b : Answer A) → Other a → Other b → Other (cond t a b)
 cond-other true a b p q = p
 cond-other false a b p q = q
@@ -81,7 +85,7 @@ unfolding runMoment
 run-other zero c until size m = answered-other m
 run-other (suc steps) c until size m =
     cond-other (ltb (timeAfter c m) never && leb (timeAfter c m) until) _ _
-    (continued-other (fitting size (stepMoment c m)) _ (fitting-other size (stepMoment c m)) (λ next. run-other steps c until size next))
+    (continued-other (admitting c size m) _ (step-other c size m) (λ next. run-other steps c until size next))
     (answered-other m)
 
 pub task-other : (c : Circuit) (task : Task) (table : Columns) (r : Run) (working : Columns) → lengthsLegal table ≡ true → workingLegal working ≡ true
@@ -93,7 +97,7 @@ task-other c Step table r working p q =
     let m : Moment = momentGiven table (runIn (answered c) r) in
     rw (p, q)
     (check-other (soundTogether c table (m .run)) Unsound _ refl
-    (check-other (ltb (timeAfter c m) never) Finished _ refl (fitting-other (length (table .letter)) (stepMoment c m))))
+    (check-other (ltb (timeAfter c m) never) Finished _ refl (step-other c (length (table .letter)) m)))
 task-other c (Until time) table r working p q =
     let m : Moment = momentGiven table (runIn (answered c) r) in
     rw (p, q) (check-other (soundTogether c table (m .run)) Unsound _ refl (run-other (c .horizon .0) c time (length (table .letter)) m))

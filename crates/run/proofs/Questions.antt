@@ -14,12 +14,13 @@ use Rattle.refusal.specs.declared.Reply.the-variants.{Done, Refused}
 use Rattle.refusal.specs.Answer.{Answer, refused, answered}
 use Rattle.format.specs.Circuit.{Circuit}
 use Rattle.diagram.specs.Pattern.{patterns}
-use Rattle.diagram.specs.Call.{Columns, lengthsLegal, columnsSound, tableOf}
+use Rattle.diagram.specs.Call.{columns, Columns, lengthsLegal, columnsSound}
+use Rattle.diagram.specs.Held.{held}
 use Rattle.rules.specs.State.{valueAt, changeAt}
 use Rattle.rules.specs.Run as defined
 use Rattle.rules.specs.Run.{stateOf, runSound}
 use Rattle.rules.specs.Call.{Wire, askCall}
-use Rattle.table.specs.Holds.{columns, Judged}
+use Rattle.table.specs.Holds.{Judged}
 use Rattle.functions.specs.Open.{Legible}
 use Rattle.functions.proofs.Carry.{sound-legible}
 use Rattle.net.specs.Net.{nodesPlace, lettersPlace, at, netCircuit}
@@ -70,13 +71,13 @@ module _ (net l w h : List ℕ) (r : Run) (n p : ℕ) (laid : Laid (netCircuit n
 
     module _ (e : x ≡ true) where
       -- 7: the run
-      pub asked-run : {y : Bool} {reply : Reply} {value change : ℕ} → y ≡ runSound (netCircuit net) (tableOf (columns l w h) (r .used)) (runOf (netCircuit net) r) → y ≡ false
+      pub asked-run : {y : Bool} {reply : Reply} {value change : ℕ} → y ≡ runSound (netCircuit net) (held l w h (r .used)) (runOf (netCircuit net) r) → y ≡ false
           → (reply ≡ Refused Unsound) × (value ≡ 0) × (change ≡ 0)
           → AskedAs (askCall (answered (netCircuit net)) (columns l w h) (runOf (netCircuit net) r) n p) reply value change
       unfolding askCall
       asked-run {y} {reply} {value} {change} is f a = asked-refused call Unsound reply value change (rw (legal, columns-by, e, ← is, f)) a
 
-      module _ {y : Bool} (is : y ≡ runSound (netCircuit net) (tableOf (columns l w h) (r .used)) (runOf (netCircuit net) r)) (f : y ≡ true) where
+      module _ {y : Bool} (is : y ≡ runSound (netCircuit net) (held l w h (r .used)) (runOf (netCircuit net) r)) (f : y ≡ true) where
         -- 9: the node
         pub asked-node : {reply : Reply} {value change : ℕ} → at net nodesPlace + 2 ≤ n → (reply ≡ Refused Question) × (value ≡ 0) × (change ≡ 0)
             → AskedAs (askCall (answered (netCircuit net)) (columns l w h) (runOf (netCircuit net) r) n p) reply value change
@@ -94,8 +95,8 @@ module _ (net l w h : List ℕ) (r : Run) (n p : ℕ) (laid : Laid (netCircuit n
 
         -- the answer
         pub asked-done : {value change : ℕ} → n < at net nodesPlace + 2 → ltb p (patterns (at net lettersPlace)) ≡ true
-            → (value ≡ valueAt (stateOf (netCircuit net) (tableOf (columns l w h) (r .used)) (runOf (netCircuit net) r) p) n)
-            × (change ≡ changeAt (stateOf (netCircuit net) (tableOf (columns l w h) (r .used)) (runOf (netCircuit net) r) p) n)
+            → (value ≡ valueAt (stateOf (netCircuit net) (held l w h (r .used)) (runOf (netCircuit net) r) p) n)
+            × (change ≡ changeAt (stateOf (netCircuit net) (held l w h (r .used)) (runOf (netCircuit net) r) p) n)
             → AskedAs (askCall (answered (netCircuit net)) (columns l w h) (runOf (netCircuit net) r) n p) Done value change
         unfolding askCall
         asked-done {value} {change} g k a =

@@ -15,9 +15,12 @@ use Rattle.lists.proofs.Cases.{lt-or-ge, eq-or-ne}
 use Rattle.lists.proofs.Padded.{replicate-read}
 use Rattle.lists.proofs.Map.{map-take}
 use Rattle.diagram.specs.Table.{Entry, Table}
-use Rattle.diagram.specs.Call.{lengthsLegal, rows, columnsOf, freshCall, columnsAfter}
-use Rattle.diagram.proofs.Columns.{letterOf, lowOf, highOf, Lengths, lengths-record, rows-letter, rows-low, rows-high, columns-path}
-use Rattle.table.specs.Holds.{columns, Holds, Kept, zeroFrom}
+use Rattle.diagram.specs.Store.{fresh}
+use Rattle.diagram.specs.Call.{columns, lengthsLegal, freshCall, columnsAfter}
+use Rattle.diagram.specs.Held.{entries, letterOf, lowOf, highOf, HeldIn}
+use Rattle.diagram.proofs.Columns.{Lengths, lengths-record, held-columns}
+use Rattle.diagram.proofs.Held.{entries-high, entries-letter, entries-low}
+use Rattle.table.specs.Holds.{Holds, Kept, zeroFrom}
 
 -- a column cleared from a place on as far as n
 pub record Clearing (from n : ℕ) (old new : List ℕ) : Type 0 where
@@ -71,24 +74,23 @@ module _ {l w h : List ℕ} {size : ℕ} {t : Table} (k : Kept l w h size t) whe
   q : length h ≡ length l
   q = omega (arith, k .letter-long, k .high-long)
 
-  column : (f : Entry → ℕ) (v : List ℕ) → map f (rows (columns l w h)) ≡ v → length v ≡ size → zeroFrom (length t) v ≡ padded size 0 (map f t)
+  column : (f : Entry → ℕ) (v : List ℕ) → map f (entries l w h) ≡ v → length v ≡ size → zeroFrom (length t) v ≡ padded size 0 (map f t)
   column f v e long =
-      let front : take (length t) v ≡ map f t = ap (take (length t)) (sym e) ∙ sym (map-take f (length t) (rows (columns l w h))) ∙ ap (map f) (k .table) in
+      let front : take (length t) v ≡ map f t = ap (take (length t)) (sym e) ∙ sym (map-take f (length t) (entries l w h)) ∙ ap (map f) (k .table) in
       let n : length (map f t) ≡ length t = length-map t f in
       rw (front, long, n)
 
-  pub kept-cleared : columns (zeroFrom (length t) l) (zeroFrom (length t) w) (zeroFrom (length t) h) ≡ columnsOf size t
-  unfolding columnsOf
-  kept-cleared =
-      columns-path _ _
-      (column letterOf l (rows-letter (columns l w h) p q) (k .letter-long))
-      (column lowOf w (rows-low (columns l w h) p q) (k .low-long))
-      (column highOf h (rows-high (columns l w h) p q) (k .high-long))
+  pub kept-cleared : HeldIn size t (zeroFrom (length t) l) (zeroFrom (length t) w) (zeroFrom (length t) h)
+  kept-cleared = record {
+    letter-is = column letterOf l (entries-letter l w h p q) (k .letter-long);
+    low-is = column lowOf w (entries-low l w h p q) (k .low-long);
+    high-is = column highOf h (entries-high l w h p q) (k .high-long);
+  }
 
 -- after a refusal: the columns cleared from the used count on are those that held the table
 pub kept-restored : {l w h l₀ w₀ h₀ ix : List ℕ} {t : Table} {used : ℕ} → Holds l₀ w₀ h₀ ix t used → Kept l w h (length l₀) t
     → columns (zeroFrom used l) (zeroFrom used w) (zeroFrom used h) ≡ columns l₀ w₀ h₀
-kept-restored s k = rw (s .long) (kept-cleared k ∙ sym (s .is))
+kept-restored {l₀ = l₀} {t = t} s k = rw (s .long) (held-columns (length l₀) t (kept-cleared k) ∙ sym (held-columns (length l₀) t (s .is)))
 
 -- three numbers, then zeros
 pub begun : (v : List ℕ) (a b c : ℕ) → 3 ≤ length v → set (set (set (zeroFrom 3 v) 0 a) 1 b) 2 c ≡ padded (length v) 0 (a ∷ b ∷ c ∷ [])
@@ -97,27 +99,29 @@ begun (x ∷ []) a b c l = absurd (omega arith)
 begun (x ∷ y ∷ []) a b c l = absurd (omega arith)
 begun (x ∷ y ∷ z ∷ v) a b c l = refl
 
+-- columns that begin with the numbers of the three terminals hold the fresh table
+pub renewed : (l w h : List ℕ) {l′ w′ h′ : List ℕ}
+    → l′ ≡ padded (length l) 0 (4294967295 ∷ 4294967295 ∷ 4294967295 ∷ [])
+    → w′ ≡ padded (length w) 0 (0 ∷ 1 ∷ 4294967295 ∷ [])
+    → h′ ≡ padded (length h) 0 (0 ∷ 0 ∷ 0 ∷ [])
+    → length w ≡ length l → length h ≡ length l → HeldIn (length l) fresh l′ w′ h′
+renewed l w h x y z p q = record {
+  letter-is = x;
+  low-is = y ∙ ap (λ (n : ℕ). padded n 0 (0 ∷ 1 ∷ 4294967295 ∷ [])) p;
+  high-is = z ∙ ap (λ (n : ℕ). padded n 0 (0 ∷ 0 ∷ 0 ∷ [])) q;
+}
+
 -- the fresh table, refused and answered
 module _ (l w h : List ℕ) where
-  pub legal-three : lengthsLegal (columns l w h) ≡ true → (3 ≤ length l) × (3 ≤ length w) × (3 ≤ length h)
-  legal-three e = let long : Lengths (columns l w h) = lengths-record (columns l w h) e in omega arith
+  pub legal-three : lengthsLegal (columns l w h) ≡ true → (3 ≤ length l) × (length w ≡ length l) × (length h ≡ length l)
+  legal-three e = let long : Lengths (columns l w h) = lengths-record (columns l w h) e in (long .least, long .low-long, long .high-long)
 
   pub fresh-refused : lengthsLegal (columns l w h) ≡ false
       → (Refused Buffer ≡ replyOf (freshCall (columns l w h))) × (columns l w h ≡ columnsAfter (columns l w h) (freshCall (columns l w h)))
   unfolding freshCall columnsAfter
   fresh-refused e = rw e (refl, refl)
 
-  pub fresh-done : lengthsLegal (columns l w h) ≡ true → (l′ w′ h′ : List ℕ)
-      → l′ ≡ padded (length l) 0 (4294967295 ∷ 4294967295 ∷ 4294967295 ∷ [])
-      → w′ ≡ padded (length w) 0 (0 ∷ 1 ∷ 4294967295 ∷ [])
-      → h′ ≡ padded (length h) 0 (0 ∷ 0 ∷ 0 ∷ [])
+  pub fresh-done : lengthsLegal (columns l w h) ≡ true → (l′ w′ h′ : List ℕ) → HeldIn (length l) fresh l′ w′ h′
       → (Done ≡ replyOf (freshCall (columns l w h))) × (columns l′ w′ h′ ≡ columnsAfter (columns l w h) (freshCall (columns l w h)))
-  unfolding freshCall columnsAfter columnsOf
-  fresh-done e l′ w′ h′ x y z =
-      let long : Lengths (columns l w h) = lengths-record (columns l w h) e in
-      rw e (
-        refl,
-        columns-path _ _ x
-            (y ∙ ap (λ (n : ℕ). padded n 0 (0 ∷ 1 ∷ 4294967295 ∷ [])) (long .low-long))
-            (z ∙ ap (λ (n : ℕ). padded n 0 (0 ∷ 0 ∷ 0 ∷ [])) (long .high-long)),
-      )
+  unfolding freshCall columnsAfter
+  fresh-done e l′ w′ h′ g = rw e (refl, held-columns (length l) fresh g)

@@ -8,11 +8,13 @@ use native.Mathlib.Omega.{arith}
 use lib.ListN.{length, getD, set, take, replicate, length-set, length-replicate}
 use lib.Seq.{getD-set-same, getD-set-other, length-take-le}
 use Rattle.diagram.specs.Table.{branch, entryAt}
-use Rattle.diagram.specs.Call.{lengthsLegal, rows}
+use Rattle.diagram.specs.Call.{columns, lengthsLegal}
+use Rattle.diagram.specs.Held.{entries}
 use Rattle.diagram.proofs.Sound.{entry-path}
-use Rattle.diagram.proofs.Columns.{Lengths, lengths-record, lengths-test, rows-at}
+use Rattle.diagram.proofs.Columns.{Lengths, lengths-record, lengths-test}
+use Rattle.diagram.proofs.Held.{entries-at}
 use Rattle.table.specs.Index.{bucket, Indexed, linked}
-use Rattle.table.specs.Holds.{columns, Sized, Ready, Sought, Empty, IndexLength}
+use Rattle.table.specs.Holds.{Sized, Ready, Sought, Empty, IndexLength}
 use Rattle.table.specs.Steps.{Entered}
 use Rattle.table.proofs.Index.{indexed-none, indexed-agree, indexed-next}
 
@@ -57,10 +59,10 @@ part-ready l w h n m e x le =
 
 -- an empty index is that of no rows
 pub ready-none : {l w h ix : List ℕ} → Sized l w h ix → Empty ix → Ready l w h ix 0
-ready-none {l} {w} {h} {ix} s e = record { sized = s; fits = omega arith; index = indexed-none (length ix / 2) (rows (columns l w h)) ix e }
+ready-none {l} {w} {h} {ix} s e = record { sized = s; fits = omega arith; index = indexed-none (length ix / 2) (entries l w h) ix e }
 
 -- a row that is linked at the head of its bucket
-pub ready-link : (l w h ix : List ℕ) (used : ℕ) → Ready l w h ix used → used < length l → (head : ℕ) → bucket (length ix / 2) (entryAt (rows (columns l w h)) used) ≡ head → head < length ix / 2
+pub ready-link : (l w h ix : List ℕ) (used : ℕ) → Ready l w h ix used → used < length l → (head : ℕ) → bucket (length ix / 2) (entryAt (entries l w h) used) ≡ head → head < length ix / 2
     → Ready l w h (linked (length ix / 2) ix head used) (used + 1)
 ready-link l w h ix used s room head own small =
     let half : ℕ = length ix / 2 in
@@ -73,8 +75,8 @@ ready-link l w h ix used s room head own small =
       fits = omega arith;
       index =
           rw halves
-          (subst (λ (n : ℕ). Indexed (length ix / 2) (rows (columns l w h)) n (linked (length ix / 2) ix head used)) (sym (add-one used))
-          (indexed-next (length ix / 2) (rows (columns l w h)) used ix (s .index) (omega arith) head own small));
+          (subst (λ (n : ℕ). Indexed (length ix / 2) (entries l w h) n (linked (length ix / 2) ix head used)) (sym (add-one used))
+          (indexed-next (length ix / 2) (entries l w h) used ix (s .index) (omega arith) head own small));
     }
 
 -- an entry written at the used count
@@ -85,15 +87,15 @@ module _ (l w h ix : List ℕ) (used : ℕ) (s : Ready l w h ix used) (k a b : �
   high-long : length (set h used b) ≡ length (set l used k)
   high-long = length-set h used b ∙ s .sized .high-long ∙ sym (length-set l used k)
 
-  row-before : (i : ℕ) → i < used → entryAt (rows (columns l w h)) i ≡ entryAt (rows (columns (set l used k) (set w used a) (set h used b))) i
+  row-before : (i : ℕ) → i < used → entryAt (entries l w h) i ≡ entryAt (entries (set l used k) (set w used a) (set h used b)) i
   row-before i g =
-      rows-at (columns l w h) (s .sized .low-long) (s .sized .high-long) i
+      entries-at l w h (s .sized .low-long) (s .sized .high-long) i
       ∙ entry-path _ _ (sym (getD-set-other l used i k 0 (omega arith))) (sym (getD-set-other w used i a 0 (omega arith))) (sym (getD-set-other h used i b 0 (omega arith)))
-      ∙ sym (rows-at (columns (set l used k) (set w used a) (set h used b)) low-long high-long i)
+      ∙ sym (entries-at (set l used k) (set w used a) (set h used b) low-long high-long i)
 
-  row-new : entryAt (rows (columns (set l used k) (set w used a) (set h used b))) used ≡ branch k a b
+  row-new : entryAt (entries (set l used k) (set w used a) (set h used b)) used ≡ branch k a b
   row-new =
-      rows-at (columns (set l used k) (set w used a) (set h used b)) low-long high-long used
+      entries-at (set l used k) (set w used a) (set h used b) low-long high-long used
       ∙ entry-path _ _ (getD-set-same l used k 0 room) (getD-set-same w used a 0 (omega (arith, s .sized .low-long))) (getD-set-same h used b 0 (omega (arith, s .sized .high-long)))
 
   ready-set : Ready (set l used k) (set w used a) (set h used b) ix used
@@ -112,9 +114,9 @@ module _ (l w h ix : List ℕ) (used : ℕ) (s : Ready l w h ix used) (k a b : �
       ready-link (set l used k) (set w used a) (set h used b) ix used ready-set (omega (arith, length-set l used k)) head (ap (bucket (length ix / 2)) row-new ∙ sym own) small
 
 -- a row that is searched for before it is linked
-module _ (l w h ix : List ℕ) (at : ℕ) (s : Ready l w h ix at) (r : ℕ) (f : Sought (rows (columns l w h)) at (branch (getD l at 0) (getD w at 0) (getD h at 0)) r) where
-  row : entryAt (rows (columns l w h)) at ≡ branch (getD l at 0) (getD w at 0) (getD h at 0)
-  row = rows-at (columns l w h) (s .sized .low-long) (s .sized .high-long) at
+module _ (l w h ix : List ℕ) (at : ℕ) (s : Ready l w h ix at) (r : ℕ) (f : Sought (entries l w h) at (branch (getD l at 0) (getD w at 0) (getD h at 0)) r) where
+  row : entryAt (entries l w h) at ≡ branch (getD l at 0) (getD w at 0) (getD h at 0)
+  row = entries-at l w h (s .sized .low-long) (s .sized .high-long) at
 
   pub entered-twin : (ix′ : List ℕ) → r < at → Entered l w h ix′ at false
   entered-twin ix′ there = record {

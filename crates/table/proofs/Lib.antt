@@ -3,6 +3,7 @@ pub mod Power
 pub mod Rows
 pub mod Search
 pub mod Entering
+pub mod Stops
 pub mod Outcomes
 pub mod Judge
 pub mod Clearing

@@ -2,41 +2,45 @@
 use mathlib.Core.Path.{_≡_, refl, sym, _∙_, ap, subst, subst₂}
 use mathlib.Core.Logic.{⊎-elim}
 use mathlib.Core.List.{List, [], _∷_, _++_}
-use mathlib.Core.Bool.{Bool, true, false, true≢false}
+use mathlib.Core.Bool.{true, false, true≢false}
 use Prim.Native.Nat.{ℕ, _+_, _/_, _<_, _≤_}
 use native.Mathlib.Omega.{arith}
 use lib.ListN.{length, set, take, length-append, length-set}
 use lib.Seq.{getD-take, take-take}
-use borrow.Author.Tests.{lt-ltb, le-ltb, ltb-true}
 use Rattle.lists.proofs.Cases.{lt-or-ge, true-false}
 use Rattle.diagram.specs.Table.{Entry, Table, blank, branch, entryAt}
 use Rattle.diagram.specs.Sound.{distinct}
 use Rattle.diagram.specs.Store.{Stored, stored, find, add}
-use Rattle.diagram.specs.Call.{Columns, rows, tableOf}
+use Rattle.diagram.specs.Held.{entries, held}
 use Rattle.diagram.proofs.Sound.{distinct-apart, apart-distinct}
 use Rattle.diagram.proofs.Add.{Extends, extends-refl, extends-append, extends-take, find-is, find-missing, find-cases, add-found, add-missing, Added, added}
-use Rattle.diagram.proofs.Columns.{table-length, table-columns, columns-path, columns-letter-set, columns-low-set, columns-high-set}
+use Rattle.diagram.proofs.Held.{held-length, held-is, held-next}
 use Rattle.table.specs.declared.Put.{Put}
+use Rattle.table.specs.declared.Stop.{Stop}
+use Rattle.table.specs.declared.Stop.the-variants.{Going, Full}
+use Rattle.table.specs.Stop.{stopped}
 use Rattle.table.specs.Index.{bucket, linked}
-use Rattle.table.specs.Holds.{columns, Holds, Kept, Outcome, Sought}
+use Rattle.table.specs.Holds.{Holds, Kept, Outcome, Sought}
+use Rattle.table.proofs.Stops.{stop-over, stop-fits, stop-more, going-fits, full-over}
 use Rattle.table.proofs.Entering.{ready-write}
 
-abbrev pub put : Bool → ℕ → ℕ → Put
-put f e u = record { full = f; entry = e; used = u }
+abbrev pub put : Stop → ℕ → ℕ → Put
+put s e u = record { stop = s; entry = e; used = u }
 
 -- among rows that differ, what a search finds is the first place
-pub sought-find : (c : Columns) (used : ℕ) (x : Entry) (r : ℕ) → length (c .low) ≡ length (c .letter) → length (c .high) ≡ length (c .letter) → used ≤ length (c .letter)
-    → distinct (tableOf c used) ≡ true → Sought (rows c) used x r → r ≡ find x (tableOf c used)
-sought-find c used x r p q fits apart s =
-    let t : Table = tableOf c used in
-    let long : length t ≡ used = table-length c p q used fits in
+pub sought-find : (l w h : List ℕ) (used : ℕ) (x : Entry) (r : ℕ) → length w ≡ length l → length h ≡ length l → used ≤ length l
+    → distinct (held l w h used) ≡ true → Sought (entries l w h) used x r → r ≡ find x (held l w h used)
+sought-find l w h used x r p q fits apart s =
+    let t : Table = held l w h used in
+    let rows : Table = entries l w h in
+    let long : length t ≡ used = held-length l w h p q used fits in
     ⊎-elim
-    (λ (l : r < used).
-    sym (find-is x t r (omega arith) (getD-take used (rows c) r blank l ∙ s .there l) (λ j g e.
-    let z : r ≡ j = distinct-apart t apart r j (omega arith) (omega arith) (getD-take used (rows c) r blank l ∙ s .there l ∙ sym e) in omega arith)))
-    (λ (l : used ≤ r).
+    (λ (k : r < used).
+    sym (find-is x t r (omega arith) (getD-take used rows r blank k ∙ s .there k) (λ j g e.
+    let z : r ≡ j = distinct-apart t apart r j (omega arith) (omega arith) (getD-take used rows r blank k ∙ s .there k ∙ sym e) in omega arith)))
+    (λ (k : used ≤ r).
     let z : r ≡ used = omega (arith, s .within) in
-    z ∙ sym long ∙ sym (find-missing x t (λ i g e. let h : i < used = omega arith in s .missing z i h (sym (getD-take used (rows c) i blank h) ∙ e))))
+    z ∙ sym long ∙ sym (find-missing x t (λ i g e. let k′ : i < used = omega arith in s .missing z i k′ (sym (getD-take used rows i blank k′) ∙ e))))
     (lt-or-ge r used)
 
 module _ {l w h ix : List ℕ} {t : Table} {used : ℕ} (s : Holds l w h ix t used) where
@@ -44,8 +48,8 @@ module _ {l w h ix : List ℕ} {t : Table} {used : ℕ} (s : Holds l w h ix t us
   holds-fits = omega (arith, s .ready .fits, s .long)
 
   -- the columns hold the table
-  pub holds-table : tableOf (columns l w h) used ≡ t
-  holds-table = ap (tableOf (columns l w h)) (s .long) ∙ ap (λ (c : Columns). tableOf c (length t)) (s .is) ∙ table-columns (length l) t holds-fits
+  pub holds-table : held l w h used ≡ t
+  holds-table = ap (held l w h) (s .long) ∙ held-is (s .is) holds-fits
 
   -- and each table that it extends
   pub holds-kept : {u : Table} → Extends u t → Kept l w h (length l) u
@@ -55,19 +59,19 @@ module _ {l w h ix : List ℕ} {t : Table} {used : ℕ} (s : Holds l w h ix t us
     high-long = s .ready .sized .high-long;
     fits = omega (arith, e .longer, holds-fits);
     table =
-        sym (take-take (length u) used (rows (columns l w h)) (omega (arith, e .longer, s .long)))
+        sym (take-take (length u) used (entries l w h) (omega (arith, e .longer, s .long)))
         ∙ ap (take (length u)) holds-table
         ∙ extends-take u t e;
   }
 
   -- what a call asks of the table in the columns
-  pub holds-again : Holds l w h ix (tableOf (columns l w h) used) used
+  pub holds-again : Holds l w h ix (held l w h used) used
   holds-again = rw holds-table s
 
   -- an entry that is there needs no storing
-  pub outcome-there : (e : ℕ) → Outcome t (stored t e) l w h ix (put false e used)
+  pub outcome-there : (e : ℕ) → Outcome t (stored t e) l w h ix (put Going e used)
   outcome-there e = record {
-    full = sym (le-ltb (length l) (length t) holds-fits);
+    stop = going-fits (length l) (length t) holds-fits;
     entry = λ _. refl;
     holds = λ _. s;
     crowded = λ z. absurd (true≢false (sym z));
@@ -82,25 +86,28 @@ kept-extends {l} {w} {h} {size} {t} {u} e k = record {
   high-long = k .high-long;
   fits = omega (arith, e .longer, k .fits);
   table =
-      sym (take-take (length t) (length u) (rows (columns l w h)) (e .longer))
+      sym (take-take (length t) (length u) (entries l w h) (e .longer))
       ∙ ap (take (length t)) (k .table)
       ∙ extends-take t u e;
 }
 
 module _ {t : Table} {s : Stored} {l w h ix : List ℕ} {r : Put} (o : Outcome t s l w h ix r) where
-  pub outcome-over : r .full ≡ true → length l < length (s .table)
-  outcome-over e = ltb-true (length l) (length (s .table)) (sym (o .full) ∙ e)
+  pub outcome-over : stopped (r .stop) ≡ true → length l < length (s .table)
+  outcome-over = stop-over (length l) (length (s .table)) (o .stop)
+
+  pub outcome-fits : stopped (r .stop) ≡ false → length (s .table) ≤ length l
+  outcome-fits = stop-fits (length l) (length (s .table)) (o .stop)
 
   -- a later step's outcome is one of the whole
   pub outcome-extends : {v : Table} → Extends v t → Outcome v s l w h ix r
-  outcome-extends e = record { full = o .full; entry = o .entry; holds = o .holds; crowded = o .crowded; kept = kept-extends e (o .kept) }
+  outcome-extends e = record { stop = o .stop; entry = o .entry; holds = o .holds; crowded = o .crowded; kept = kept-extends e (o .kept) }
 
   -- where a part does not fit, the whole does not
-  pub outcome-stops : (v : Stored) → r .full ≡ true → Extends (s .table) (v .table) → Outcome t v l w h ix r
+  pub outcome-stops : (v : Stored) → stopped (r .stop) ≡ true → Extends (s .table) (v .table) → Outcome t v l w h ix r
   outcome-stops v e x = record {
-    full = e ∙ sym (lt-ltb (length l) (length (v .table)) (omega (arith, outcome-over e, x .longer)));
-    entry = λ z. true-false (r .full) e z;
-    holds = λ z. true-false (r .full) e z;
+    stop = stop-more (length l) (length (s .table)) (o .stop) e (length (v .table)) (x .longer);
+    entry = λ z. true-false (stopped (r .stop)) e z;
+    holds = λ z. true-false (stopped (r .stop)) e z;
     crowded = λ z.
         subst (λ (u : Table). Holds l w h ix u (length l))
         (ap (take (length l)) (sym (extends-take (s .table) (v .table) x)) ∙ take-take (length l) (length (s .table)) (v .table) (omega (arith, outcome-over e)))
@@ -133,11 +140,11 @@ distinct-append t x d none =
 
 module _ {l w h ix : List ℕ} {t : Table} {used : ℕ} (s : Holds l w h ix t used) (x : Entry) where
   -- what is there is found
-  pub outcome-found : (at : ℕ) → at ≡ find x t → at < used → Outcome t (add x t) l w h ix (put false at used)
+  pub outcome-found : (at : ℕ) → at ≡ find x t → at < used → Outcome t (add x t) l w h ix (put Going at used)
   outcome-found at e there =
       rw (add-found x t (omega (arith, s .long)))
       record {
-        full = sym (le-ltb (length l) (length t) (holds-fits s));
+        stop = going-fits (length l) (length t) (holds-fits s);
         entry = λ _. e;
         holds = λ _. s;
         crowded = λ z. absurd (true≢false (sym z));
@@ -152,11 +159,11 @@ module _ {l w h ix : List ℕ} {t : Table} {used : ℕ} (s : Holds l w h ix t us
       (find-cases x t)
 
   -- what is not has no room
-  pub outcome-full : (at entry : ℕ) → at ≡ find x t → used ≤ at → length l ≤ used → Outcome t (add x t) l w h ix (put true entry used)
+  pub outcome-full : (at entry : ℕ) → at ≡ find x t → used ≤ at → length l ≤ used → Outcome t (add x t) l w h ix (put Full entry used)
   outcome-full at entry e out full =
       rw (add-missing x t (nowhere at e out))
       record {
-        full = sym (lt-ltb (length l) (length (t ++ x ∷ [])) (simp length-append (omega (arith, s .long))));
+        stop = full-over (length l) (length (t ++ x ∷ [])) (simp length-append (omega (arith, s .long)));
         entry = λ z. absurd (true≢false z);
         holds = λ z. absurd (true≢false z);
         crowded = λ _.
@@ -179,22 +186,19 @@ module _ {l w h ix : List ℕ} {t : Table} {used : ℕ} (s : Holds l w h ix t us
         let size : length (set l used k) ≡ length l = length-set l used k in
         let here : used ≡ length t = s .long in
         rw (size, here)
-        (columns-path _ _
-        (ap (λ (c : Columns). set (c .letter) (length t) k) (s .is) ∙ columns-letter-set (length l) t x (omega arith))
-        (ap (λ (c : Columns). set (c .low) (length t) a) (s .is) ∙ columns-low-set (length l) t x (omega arith))
-        (ap (λ (c : Columns). set (c .high) (length t) b) (s .is) ∙ columns-high-set (length l) t x (omega arith)));
+        (held-next (s .is) x (omega arith));
     long = simp length-append (omega (arith, s .long));
     apart = distinct-append t x (s .apart) none;
   }
 
   pub outcome-new : (at head : ℕ) → at ≡ find x t → used ≤ at → used < length l → head ≡ bucket (length ix / 2) x → head < length ix / 2
-      → Outcome t (add x t) (set l used k) (set w used a) (set h used b) (linked (length ix / 2) ix head used) (put false used (used + 1))
+      → Outcome t (add x t) (set l used k) (set w used a) (set h used b) (linked (length ix / 2) ix head used) (put Going used (used + 1))
   outcome-new at head e out room own small =
       let none : (i : ℕ) → i < length t → entryAt t i ≡ x → ⊥ = nowhere s x at e out in
       let z : Holds (set l used k) (set w used a) (set h used b) (linked (length ix / 2) ix head used) (t ++ x ∷ []) (used + 1) = holds-next room none head own small in
       rw (add-missing x t none)
       record {
-        full = sym (le-ltb (length (set l used k)) (length (t ++ x ∷ [])) (holds-fits z));
+        stop = going-fits (length (set l used k)) (length (t ++ x ∷ [])) (holds-fits z);
         entry = λ _. s .long;
         holds = λ _. z;
         crowded = λ e. absurd (true≢false (sym e));

@@ -7,21 +7,21 @@ use lib.ListN.{length, getD}
 use lib.Dec.{eqb}
 use borrow.Author.Tests.{eq-eqb, ne-eqb, le-leb, lt-leb}
 use Rattle.diagram.specs.Table.{Entry, branch, entryAt, same}
-use Rattle.diagram.specs.Call.{lengthsLegal, rows}
-use Rattle.diagram.proofs.Columns.{rows-at}
-use Rattle.table.specs.Holds.{columns}
+use Rattle.diagram.specs.Call.{columns, lengthsLegal}
+use Rattle.diagram.specs.Held.{entries}
+use Rattle.diagram.proofs.Held.{entries-at}
 
 module _ (l w h : List ℕ) (i k a b : ℕ) (p : length w ≡ length l) (q : length h ≡ length l) where
-  row-same : same (entryAt (rows (columns l w h)) i) (branch k a b) ≡ (eqb (getD l i 0) k && eqb (getD w i 0) a && eqb (getD h i 0) b)
-  row-same = ap (λ (x : Entry). same x (branch k a b)) (rows-at (columns l w h) p q i)
+  row-same : same (entryAt (entries l w h) i) (branch k a b) ≡ (eqb (getD l i 0) k && eqb (getD w i 0) a && eqb (getD h i 0) b)
+  row-same = ap (λ (x : Entry). same x (branch k a b)) (entries-at l w h p q i)
 
-  pub row-letter : (getD l i 0 ≡ k → ⊥) → false ≡ same (entryAt (rows (columns l w h)) i) (branch k a b)
+  pub row-letter : (getD l i 0 ≡ k → ⊥) → false ≡ same (entryAt (entries l w h) i) (branch k a b)
   row-letter e = rw (row-same, ne-eqb (getD l i 0) k e)
 
-  pub row-low : getD l i 0 ≡ k → (getD w i 0 ≡ a → ⊥) → false ≡ same (entryAt (rows (columns l w h)) i) (branch k a b)
+  pub row-low : getD l i 0 ≡ k → (getD w i 0 ≡ a → ⊥) → false ≡ same (entryAt (entries l w h) i) (branch k a b)
   row-low d e = rw (row-same, eq-eqb (getD l i 0) k d, ne-eqb (getD w i 0) a e)
 
-  pub row-high : getD l i 0 ≡ k → getD w i 0 ≡ a → eqb (getD h i 0) b ≡ same (entryAt (rows (columns l w h)) i) (branch k a b)
+  pub row-high : getD l i 0 ≡ k → getD w i 0 ≡ a → eqb (getD h i 0) b ≡ same (entryAt (entries l w h) i) (branch k a b)
   row-high d e = rw (row-same, eq-eqb (getD l i 0) k d, eq-eqb (getD w i 0) a e)
 
 -- the test of the lengths, step by step

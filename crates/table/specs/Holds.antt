@@ -1,4 +1,4 @@
--- Lent columns that hold a table beside its index, and what a function that stores leaves in them.
+-- Columns that hold a table beside its index, and what a function that stores leaves in them.
 use mathlib.Core.Path.{_≡_}
 use mathlib.Core.List.{List, _++_}
 use mathlib.Core.Bool.{Bool, true, false}
@@ -8,12 +8,10 @@ use lib.Dec.{ltb}
 use Rattle.diagram.specs.Table.{Entry, Table, entryAt}
 use Rattle.diagram.specs.Sound.{distinct}
 use Rattle.diagram.specs.Store.{Stored}
-use Rattle.diagram.specs.Call.{Columns, leastEntries, mostEntries, rows, tableOf, columnsOf, columnsSound}
+use Rattle.diagram.specs.Held.{leastEntries, mostEntries, entries, held, HeldIn, heldSound}
 use Rattle.table.specs.declared.Put.{Put}
+use Rattle.table.specs.Stop.{stopped, fullIf}
 use Rattle.table.specs.Index.{Indexed}
-
-abbrev pub columns : List ℕ → List ℕ → List ℕ → Columns
-columns l w h = record { letter = l; low = w; high = h }
 
 -- columns of legal lengths, and an index that is long enough for them
 pub record Sized (l w h ix : List ℕ) : Type 0 where
@@ -28,12 +26,12 @@ pub record Sized (l w h ix : List ℕ) : Type 0 where
 pub record Ready (l w h ix : List ℕ) (used : ℕ) : Type 0 where
   pub sized : Sized l w h ix
   pub fits : used ≤ length l
-  pub index : Indexed (length ix / 2) (rows (columns l w h)) used ix
+  pub index : Indexed (length ix / 2) (entries l w h) used ix
 
 -- the columns hold the table t, whose entries differ, and nothing past it
 pub record Holds (l w h ix : List ℕ) (t : Table) (used : ℕ) : Type 0 where
   pub ready : Ready l w h ix used
-  pub is : columns l w h ≡ columnsOf (length l) t
+  pub is : HeldIn (length l) t l w h
   pub long : used ≡ length t
   pub apart : distinct t ≡ true
 
@@ -43,14 +41,14 @@ pub record Kept (l w h : List ℕ) (size : ℕ) (t : Table) : Type 0 where
   pub low-long : length w ≡ size
   pub high-long : length h ≡ size
   pub fits : length t ≤ size
-  pub table : tableOf (columns l w h) (length t) ≡ t
+  pub table : held l w h (length t) ≡ t
 
 -- what a function that stores in the table t is to leave, and its answer: `s` where it fits; else as much of `s` as there are rows
 pub record Outcome (t : Table) (s : Stored) (l w h ix : List ℕ) (r : Put) : Type 0 where
-  pub full : r .full ≡ ltb (length l) (length (s .table))
-  pub entry : r .full ≡ false → r .entry ≡ s .entry
-  pub holds : r .full ≡ false → Holds l w h ix (s .table) (r .used)
-  pub crowded : r .full ≡ true → Holds l w h ix (take (length l) (s .table)) (length l)
+  pub stop : r .stop ≡ fullIf (ltb (length l) (length (s .table)))
+  pub entry : stopped (r .stop) ≡ false → r .entry ≡ s .entry
+  pub holds : stopped (r .stop) ≡ false → Holds l w h ix (s .table) (r .used)
+  pub crowded : stopped (r .stop) ≡ true → Holds l w h ix (take (length l) (s .table)) (length l)
   pub kept : Kept l w h (length l) t
 
 -- the place of an entry among the first n rows, or n
@@ -65,8 +63,8 @@ zeroFrom n l = take n l ++ replicate (length l - n) 0
 
 -- whether the columns are sound for some letters; where they are, the columns and the index hold the table
 pub record Judged (letters : ℕ) (l w h : List ℕ) (used : ℕ) (ix : List ℕ) (r : Bool) : Type 0 where
-  pub is : r ≡ columnsSound letters (columns l w h) used
-  pub holds : r ≡ true → Holds l w h ix (tableOf (columns l w h) used) used
+  pub is : r ≡ heldSound letters l w h used
+  pub holds : r ≡ true → Holds l w h ix (held l w h used) used
 
 -- an index of nothing
 abbrev pub Empty : List ℕ → Type 0

@@ -1,3 +1,4 @@
 pub mod Index
+pub mod Stop
 pub mod Holds
 pub mod Steps

@@ -8,8 +8,8 @@ use lib.Dec.{ltb}
 use Rattle.lists.specs.Tests.{below}
 use Rattle.diagram.specs.Table.{Table, never, terminal, entryAt, same}
 use Rattle.diagram.specs.Sound.{entryLegal, distinct}
-use Rattle.diagram.specs.Call.{rows, tableOf}
-use Rattle.table.specs.Holds.{columns, Ready}
+use Rattle.diagram.specs.Held.{entries, held}
+use Rattle.table.specs.Holds.{Ready}
 
 -- a part of entry i, in the letter column
 abbrev pub partIn : List ℕ → ℕ → ℕ → ℕ → Bool
@@ -26,10 +26,10 @@ entriesLegal letters t = below (length t) (entryLegal letters t) && distinct t
 -- row `at` was put into the index, unless an earlier row equals it
 pub record Entered (l w h ix : List ℕ) (at : ℕ) (r : Bool) : Type 0 where
   pub ready : r ≡ true → Ready l w h ix (at + 1)
-  pub new : r ≡ true → (j : ℕ) → j < at → entryAt (rows (columns l w h)) j ≡ entryAt (rows (columns l w h)) at → ⊥
-  pub twin : r ≡ false → (j : ℕ) × (j < at) × (entryAt (rows (columns l w h)) j ≡ entryAt (rows (columns l w h)) at)
+  pub new : r ≡ true → (j : ℕ) → j < at → entryAt (entries l w h) j ≡ entryAt (entries l w h) at → ⊥
+  pub twin : r ≡ false → (j : ℕ) × (j < at) × (entryAt (entries l w h) j ≡ entryAt (entries l w h) at)
 
 -- the used rows were put into the index, unless they are no legal entries
 pub record Filled (letters : ℕ) (l w h : List ℕ) (used : ℕ) (ix : List ℕ) (r : Bool) : Type 0 where
-  pub is : r ≡ entriesLegal letters (tableOf (columns l w h) used)
+  pub is : r ≡ entriesLegal letters (held l w h used)
   pub ready : r ≡ true → Ready l w h ix used

@@ -10,19 +10,37 @@ ghost use Rattle.refusal.specs.Answer.{replyOf};
 ghost use Rattle.lists.specs.Padded.{padded};
 ghost use Rattle.diagram.specs.Table.{branch, entryAt, same};
 ghost use Rattle.diagram.specs.Sound.{entryLegal};
-ghost use Rattle.diagram.specs.Store.{find as findOf, add as addOf};
-ghost use Rattle.diagram.specs.Call.{lengthsLegal, rows, tableOf, allBlank, freshCall, columnsAfter};
+ghost use Rattle.diagram.specs.Store.{fresh as freshTable, find as findOf, add as addOf};
+ghost use Rattle.diagram.specs.Call.{columns, lengthsLegal, freshCall, columnsAfter};
+ghost use Rattle.diagram.specs.Held.{allBlank, entries, held, HeldIn};
+ghost use Rattle.table.specs.Stop.{stopped as stoppedOf};
 ghost use Rattle.table.specs.Index.{bucket as bucketOf, linked};
-ghost use Rattle.table.specs.Holds.{columns, Sized, Ready, Holds, Outcome, Sought, Judged, zeroFrom, Empty, IndexLength};
+ghost use Rattle.table.specs.Holds.{Sized, Ready, Holds, Outcome, Sought, Judged, zeroFrom, Empty, IndexLength};
 ghost use Rattle.table.specs.Steps.{partIn, threeTerminals, Entered, Filled};
 use refusal::Refusal;
 use refusal::Reply;
 
-// What storing answers: whether there was no room; else the entry and the new used count.
+// Whether storing goes on, or why it stopped.
+pub enum Stop {
+    Going,
+    Full,
+}
+
+// What storing answers: whether it stopped; else the entry and the new used count.
 pub struct Put {
-    pub full: bool,
+    pub stop: Stop,
     pub entry: u32,
     pub used: u32,
+}
+
+// Whether it stopped, whatever the reason.
+pub fn stopped(stop: Stop) -> bool
+    ensures { λ r. ⌜ r ≡ stoppedOf stop ⌝ }
+{
+    match stop {
+        Stop::Going => false,
+        Stop::Full => true,
+    }
 }
 
 // Whether the columns' lengths are equal and in their range.
@@ -67,7 +85,7 @@ fn bucket(half: usize, k: u32, a: u32, b: u32) -> usize
 // Whether row `i` is the entry (k, a, b).
 fn is_entry(letter: &[u32], low: &[u32], high: &[u32], i: usize, k: u32, a: u32, b: u32) -> bool
     requires { ⌜ (i < length (now letter)) × (length (now low) ≡ length (now letter)) × (length (now high) ≡ length (now letter)) ⌝ }
-    ensures { λ r. ⌜ r ≡ same (entryAt (rows (columns (now (letter .entry)) (now (low .entry)) (now (high .entry)))) i) (branch k a b) ⌝ }
+    ensures { λ r. ⌜ r ≡ same (entryAt (entries (now (letter .entry)) (now (low .entry)) (now (high .entry))) i) (branch k a b) ⌝ }
 {
     if letter[i] != k {
         return false;
@@ -90,7 +108,7 @@ fn seek(
     b: u32,
 ) -> u32
     requires { ⌜ Ready (now letter) (now low) (now high) (now index) used ⌝ }
-    ensures { λ r. ⌜ Sought (rows (columns (now (letter .entry)) (now (low .entry)) (now (high .entry)))) used (branch k a b) r ⌝ }
+    ensures { λ r. ⌜ Sought (entries (now (letter .entry)) (now (low .entry)) (now (high .entry))) used (branch k a b) r ⌝ }
 {
     let half = index.len() / 2;
     let head = bucket(half, k, a, b);
@@ -116,8 +134,8 @@ pub fn find(
     a: u32,
     b: u32,
 ) -> u32
-    requires { ⌜ Holds (now letter) (now low) (now high) (now index) (tableOf (columns (now letter) (now low) (now high)) used) used ⌝ }
-    ensures { λ r. ⌜ r ≡ findOf (branch k a b) (tableOf (columns (now (letter .entry)) (now (low .entry)) (now (high .entry))) used) ⌝ }
+    requires { ⌜ Holds (now letter) (now low) (now high) (now index) (held (now letter) (now low) (now high) used) used ⌝ }
+    ensures { λ r. ⌜ r ≡ findOf (branch k a b) (held (now (letter .entry)) (now (low .entry)) (now (high .entry)) used) ⌝ }
 {
     seek(letter, low, high, index, used, k, a, b)
 }
@@ -144,13 +162,13 @@ pub fn add(
     a: u32,
     b: u32,
 ) -> Put
-    requires { ⌜ Holds (now letter) (now low) (now high) (now index) (tableOf (columns (now letter) (now low) (now high)) used) used ⌝ }
-    ensures { λ r. ⌜ Outcome (tableOf (columns (now (letter .entry)) (now (low .entry)) (now (high .entry))) used) (addOf (branch k a b) (tableOf (columns (now (letter .entry)) (now (low .entry)) (now (high .entry))) used)) (now (letter .exit)) (now (low .exit)) (now (high .exit)) (now (index .exit)) r ⌝ }
+    requires { ⌜ Holds (now letter) (now low) (now high) (now index) (held (now letter) (now low) (now high) used) used ⌝ }
+    ensures { λ r. ⌜ Outcome (held (now (letter .entry)) (now (low .entry)) (now (high .entry)) used) (addOf (branch k a b) (held (now (letter .entry)) (now (low .entry)) (now (high .entry)) used)) (now (letter .exit)) (now (low .exit)) (now (high .exit)) (now (index .exit)) r ⌝ }
 {
     let at = find(letter, low, high, index, used, k, a, b);
     if at < used {
         return Put {
-            full: false,
+            stop: Stop::Going,
             entry: at,
             used,
         };
@@ -164,13 +182,13 @@ pub fn add(
         link(index, head, used);
         let next = used + 1;
         return Put {
-            full: false,
+            stop: Stop::Going,
             entry: used,
             used: next,
         };
     }
     Put {
-        full: true,
+        stop: Stop::Full,
         entry: 0,
         used,
     }
@@ -191,7 +209,7 @@ fn part_legal(letter: &[u32], i: usize, k: u32, e: u32) -> bool
 // Whether row `i` is a legal entry.
 fn entry_legal(letters: u32, letter: &[u32], low: &[u32], high: &[u32], i: usize) -> bool
     requires { ⌜ (i < length (now letter)) × (length (now low) ≡ length (now letter)) × (length (now high) ≡ length (now letter)) ⌝ }
-    ensures { λ r. ⌜ r ≡ entryLegal letters (rows (columns (now (letter .entry)) (now (low .entry)) (now (high .entry)))) i ⌝ }
+    ensures { λ r. ⌜ r ≡ entryLegal letters (entries (now (letter .entry)) (now (low .entry)) (now (high .entry))) i ⌝ }
 {
     let k = letter[i];
     let a = low[i];
@@ -257,7 +275,7 @@ fn fill(
 // Whether rows 0, 1 and 2 are the terminals 0, 1 and never.
 fn three_terminals(letter: &[u32], low: &[u32], high: &[u32]) -> bool
     requires { ⌜ (3 ≤ length (now letter)) × (length (now low) ≡ length (now letter)) × (length (now high) ≡ length (now letter)) ⌝ }
-    ensures { λ r. ⌜ r ≡ threeTerminals (rows (columns (now (letter .entry)) (now (low .entry)) (now (high .entry)))) ⌝ }
+    ensures { λ r. ⌜ r ≡ threeTerminals (entries (now (letter .entry)) (now (low .entry)) (now (high .entry))) ⌝ }
 {
     if !is_entry(letter, low, high, 0, 4294967295, 0, 0) {
         return false;
@@ -271,7 +289,7 @@ fn three_terminals(letter: &[u32], low: &[u32], high: &[u32]) -> bool
 // Whether all rows from a place on are zero.
 fn blank_from(letter: &[u32], low: &[u32], high: &[u32], from: usize) -> bool
     requires { ⌜ (from ≤ length (now letter)) × (length (now low) ≡ length (now letter)) × (length (now high) ≡ length (now letter)) ⌝ }
-    ensures { λ r. ⌜ r ≡ allBlank (drop from (rows (columns (now (letter .entry)) (now (low .entry)) (now (high .entry))))) ⌝ }
+    ensures { λ r. ⌜ r ≡ allBlank (drop from (entries (now (letter .entry)) (now (low .entry)) (now (high .entry)))) ⌝ }
 {
     let mut i = from;
     while i < letter.len() {
@@ -343,15 +361,23 @@ fn begin(column: &mut [u32], a: u32, b: u32, c: u32)
     column[2] = c;
 }
 
-// Makes the table fresh: the terminals 0, 1 and never.
+// The fresh table in the columns, whatever they held: the terminals 0, 1 and never.
+pub fn renew(letter: &mut [u32], low: &mut [u32], high: &mut [u32])
+    requires { ⌜ (3 ≤ length (now letter)) × (length (now low) ≡ length (now letter)) × (length (now high) ≡ length (now letter)) ⌝ }
+    ensures { λ _. ⌜ HeldIn (length (now (letter .entry))) freshTable (now (letter .exit)) (now (low .exit)) (now (high .exit)) ⌝ }
+{
+    begin(letter, 4294967295, 4294967295, 4294967295);
+    begin(low, 0, 1, 4294967295);
+    begin(high, 0, 0, 0);
+}
+
+// Makes the lent table fresh.
 pub fn fresh(letter: &mut [u32], low: &mut [u32], high: &mut [u32]) -> Reply
     ensures { λ r. ⌜ (r ≡ replyOf (freshCall (columns (now (letter .entry)) (now (low .entry)) (now (high .entry))))) × (columns (now (letter .exit)) (now (low .exit)) (now (high .exit)) ≡ columnsAfter (columns (now (letter .entry)) (now (low .entry)) (now (high .entry))) (freshCall (columns (now (letter .entry)) (now (low .entry)) (now (high .entry))))) ⌝ }
 {
     if !lengths_legal(letter, low, high) {
         return Reply::Refused(Refusal::Buffer);
     }
-    begin(letter, 4294967295, 4294967295, 4294967295);
-    begin(low, 0, 1, 4294967295);
-    begin(high, 0, 0, 0);
+    renew(letter, low, high);
     Reply::Done
 }

@@ -1,4 +1,4 @@
--- The arithmetic of document 01's step rules 4 to 6.
+-- The arithmetic of document 01's step rules 4 to 7.
 use Prim.Native.Nat.{ℕ, _+_, _-_, _*_, _/_, min, max}
 use Rattle.units.specs.declared.Ohms.{Ohms}
 use Rattle.units.specs.declared.Femtofarads.{Femtofarads}
@@ -52,3 +52,7 @@ undrivenDelay = 1
 unfoldable pub delay : Resistance → Femtofarads → Picoseconds
 delay Infinite c = picoseconds undrivenDelay
 delay (Finite r) c = picoseconds (max 1 (ceilDiv (r .0 * c .0) 1000))
+
+-- Rule 7: T and a delay after it
+abbrev pub later : Picoseconds → Picoseconds → Picoseconds
+later time delay = picoseconds (time .0 + delay .0)

@@ -1,10 +1,10 @@
-// Ohms, femtofarads and picoseconds as types of their own, and the arithmetic of step rules 4 to 6 (document 01).
+// Ohms, femtofarads and picoseconds as types of their own, and the arithmetic of step rules 4 to 7 (document 01).
 // Promise: each operation gives what its definition in specs/Rules.antt says; resistance, capacitance and time meet only in `delay`.
 // Infinite resistance is a case of its own and never a number. Work is done in 64 bits.
 ghost use mathlib.Core.Path.{_≡_};
 ghost use Prim.Native.Nat.{_+_, _*_, _^_, _≤_, _<_};
 ghost use Rattle.units.specs.Range.{Positive, Divisible};
-ghost use Rattle.units.specs.Rules.{ceilDiv, armSide, delayArm, capped as cappedOf, parallel as parallelOf, joined as joinedOf, share as shareOf, delay as delayOf};
+ghost use Rattle.units.specs.Rules.{ceilDiv, armSide, delayArm, capped as cappedOf, parallel as parallelOf, joined as joinedOf, later as laterOf, share as shareOf, delay as delayOf};
 
 pub struct Ohms(pub u32);
 
@@ -20,6 +20,14 @@ pub struct Picoseconds(pub u64);
 impl Picoseconds {
     // The delay where nothing drives.
     pub const UNDRIVEN: u64 = 1;
+
+    // A time, and a delay after it.
+    pub fn later(self, delay: Picoseconds) -> Picoseconds
+        requires { ⌜ self .0 + delay .0 < 2 ^ 64 ⌝ }
+        ensures { λ r. ⌜ r ≡ laterOf self delay ⌝ }
+    {
+        Picoseconds(self.0 + delay.0)
+    }
 }
 
 // The resistance from a node to a value: infinite where nothing leads there.

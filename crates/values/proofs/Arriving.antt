@@ -1,26 +1,24 @@
 -- What arrives at a node at T: the schedule's first entry for it, and the value that the definitions give.
 use mathlib.Core.Path.{_≡_, refl, sym, _∙_, ap, ap₂, subst}
-use mathlib.Core.Logic.{⊎-elim}
-use mathlib.Core.List.{List, [], _∷_, map}
-use mathlib.Core.Bool.{Bool, true, false, _&&_, cond}
-use Prim.Native.Nat.{ℕ, zero, suc, _+_, _-_, _*_, _/_, _%_, _<_, _≤_}
+use mathlib.Core.List.{List, map}
+use mathlib.Core.Bool.{Bool, true, false, cond}
+use Prim.Native.Nat.{ℕ, _+_, _-_, _*_, _/_, _%_, _<_, _≤_}
 use native.Mathlib.Omega.{arith}
 use lib.ListN.{length, getD}
-use lib.Dec.{eqb}
 use borrow.Author.Tests.{eq-eqb, ne-eqb}
-use Rattle.lists.proofs.Cases.{lt-or-ge}
 use Rattle.format.specs.declared.Node.{Node}
-use Rattle.format.specs.declared.Entry.{Entry}
-use Rattle.format.specs.Circuit.{Circuit, noNode, noEntry}
+use Rattle.format.specs.Circuit.{Circuit, noNode}
 use Rattle.format.specs.Legal.{mostNodes, isInput}
 use Rattle.diagram.specs.declared.Operation.the-variants.{Flip}
 use Rattle.diagram.specs.Table.{Table, numberAt}
 use Rattle.diagram.specs.Store.{Stored, stored, join, store}
 use Rattle.diagram.specs.Operation.{flip, applied}
-use Rattle.diagram.specs.Call.{tableOf}
+use Rattle.diagram.specs.Held.{held}
 use Rattle.diagram.proofs.Store.{store-ext}
 use Rattle.table.specs.declared.Put.{Put}
-use Rattle.table.specs.Holds.{columns, Outcome}
+use Rattle.table.specs.declared.Stop.{Stop}
+use Rattle.table.specs.declared.Stop.the-variants.{Going}
+use Rattle.table.specs.Holds.{Outcome}
 use Rattle.table.proofs.Outcomes.{put}
 use Rattle.functions.specs.Open.{Legible, Open, Operand}
 use Rattle.functions.proofs.Carry.{legible-sound}
@@ -32,135 +30,66 @@ use Rattle.rules.proofs.State.{Numbered}
 use Rattle.rules.proofs.Arrive.{source-constant, arrived-value, stepped-value}
 use Rattle.rules.proofs.StoreAll.{storeAll-each}
 use Rattle.rules.proofs.Step.{initial-value, started-value}
-use Rattle.net.specs.Net.{nodesPlace, entriesPlace, lettersPlace, startPlace, inputPlace, sourcePlace, timePlace, at, netCircuit}
-use Rattle.net.specs.Laid.{Within}
-use Rattle.net.proofs.Laying.{nodes-length, node-at, schedule-length, entry-at}
+use Rattle.net.specs.Net.{nodesPlace, lettersPlace, startPlace, at, netCircuit}
+use Rattle.net.specs.Due.{noSource, Due}
+use Rattle.net.proofs.Laying.{nodes-length, node-at}
 use Rattle.record.specs.declared.Run.{Run}
 use Rattle.record.specs.Record.{runOf}
 use Rattle.record.proofs.Read.{value-used, change-used, value-is, change-is}
 use Rattle.values.specs.All.{OutcomeAll}
-use Rattle.values.specs.Arriving.{noSource, Due, inputAfter, valueAfter}
+use Rattle.values.specs.Arriving.{inputAfter, valueAfter}
 use Rattle.values.proofs.Single.{own-outcome, bit-outcome, letter-stored}
-
--- an entry is for node n at T
-abbrev isFor : ℕ → ℕ → Entry → Bool
-isFor time n e = eqb (e .time .0) time && eqb (e .input) n
-
--- the first entry for a node gives its source
-scheduled-first : (es : List Entry) (time n p present i : ℕ) → i < length es → ((j : ℕ) → j < i → isFor time n (getD es j noEntry) ≡ false) → isFor time n (getD es i noEntry) ≡ true
-    → scheduled es time n p present ≡ sourceAt (getD es i noEntry .source) p
-unfolding scheduled
-scheduled-first [] time n p present i h before this = absurd (omega arith)
-scheduled-first (e ∷ es) time n p present zero h before this = rw this
-scheduled-first (e ∷ es) time n p present (suc i) h before this =
-    let first : isFor time n e ≡ false = before zero (omega arith) in
-    rw first (scheduled-first es time n p present i (omega arith) (λ j l. before (suc j) (omega arith)) this)
-
--- with no entry for it a node keeps its value
-scheduled-empty : (es : List Entry) (time n p present : ℕ) → ((j : ℕ) → j < length es → isFor time n (getD es j noEntry) ≡ false) → scheduled es time n p present ≡ present
-unfolding scheduled
-scheduled-empty [] time n p present none = refl
-scheduled-empty (e ∷ es) time n p present none =
-    let first : isFor time n e ≡ false = none zero (omega arith) in
-    rw first (scheduled-empty es time n p present (λ j l. none (suc j) (omega arith)))
-
--- entry i of the column is for node n at T
-abbrev pub isForAt : List ℕ → ℕ → ℕ → ℕ → Bool
-isForAt net time n i = eqb (at net (timePlace + i)) time && eqb (at net (inputPlace + i)) n
-
--- none of the first entries is
-abbrev pub NoneFor : List ℕ → ℕ → ℕ → ℕ → Type 0
-NoneFor net time n i = (j : ℕ) → j < i → isForAt net time n j ≡ false
-
-pub none-first : (net : List ℕ) (time n : ℕ) → NoneFor net time n 0
-none-first net time n j h = absurd (omega arith)
-
-pub none-next : (net : List ℕ) (time n i : ℕ) → NoneFor net time n i → isForAt net time n i ≡ false → NoneFor net time n (i + 1)
-none-next net time n i before this j h =
-    ⊎-elim
-    (λ (l : j < i). before j l)
-    (λ (l : i ≤ j).
-    let e : j ≡ i = omega arith in
-    rw e this)
-    (lt-or-ge j i)
-
-module _ {net : List ℕ} (laid : Within net) (time n : ℕ) where
-  for-at : (i : ℕ) → i < at net entriesPlace → isFor time n (getD (netCircuit net .schedule) i noEntry) ≡ isForAt net time n i
-  for-at i h = ap (isFor time n) (entry-at net i h)
-
-  -- the entry that is found
-  pub due-found : (i : ℕ) → i < at net entriesPlace → NoneFor net time n i → isForAt net time n i ≡ true
-      → Due (at net lettersPlace) (netCircuit net .schedule) time n (at net (sourcePlace + i))
-  due-found i h before this =
-      let small : at net (sourcePlace + i) < 2 + 2 * at net lettersPlace = laid .entry i h .source in
-      let other : eqb (at net (sourcePlace + i)) noSource ≡ false = ne-eqb (at net (sourcePlace + i)) noSource (λ e. omega (arith, laid .letters)) in
-      record {
-        legal = λ _. small;
-        is = λ p present.
-            rw other
-            (scheduled-first (netCircuit net .schedule) time n p present i (omega (arith, schedule-length net)) (λ j l. for-at j (omega arith) ∙ before j l) (for-at i h ∙ this)
-            ∙ ap (λ (e : Entry). sourceAt (e .source) p) (entry-at net i h));
-      }
-
-  -- none is
-  pub due-none : (i : ℕ) → at net entriesPlace ≤ i → NoneFor net time n i → Due (at net lettersPlace) (netCircuit net .schedule) time n noSource
-  due-none i h before = record {
-    legal = λ z. absurd (z refl);
-    is = λ p present.
-        scheduled-empty (netCircuit net .schedule) time n p present
-        (λ j l. let small : j < at net entriesPlace = omega (arith, schedule-length net) in for-at j small ∙ before j (omega arith));
-  }
 
 module _ {k : ℕ} {l w h ix : List ℕ} {used : ℕ} (o : Open k l w h ix used) where
   -- a constant source
-  pub source-bit : (byte : ℕ) → byte < 2 → Outcome (tableOf (columns l w h) used) (store k 0 (sourceAt byte) (tableOf (columns l w h) used)) l w h ix (put false byte used)
+  pub source-bit : (byte : ℕ) → byte < 2 → Outcome (held l w h used) (store k 0 (sourceAt byte) (held l w h used)) l w h ix (put Going byte used)
   source-bit byte small = bit-outcome o byte (sourceAt byte) small (λ p _. source-constant byte p small)
 
   -- a source that names a letter
   pub source-branch : (byte : ℕ) → 2 ≤ byte → byte < 2 + 2 * k → {l1 w1 h1 ix1 : List ℕ} {r : Put}
-      → Outcome (tableOf (columns l w h) used) (join (byte / 2 - 1) (stored (tableOf (columns l w h) used) (byte % 2)) (stored (tableOf (columns l w h) used) (1 - byte % 2))) l1 w1 h1 ix1 r
-      → Outcome (tableOf (columns l w h) used) (store k 0 (sourceAt byte) (tableOf (columns l w h) used)) l1 w1 h1 ix1 r
+      → Outcome (held l w h used) (join (byte / 2 - 1) (stored (held l w h used) (byte % 2)) (stored (held l w h used) (1 - byte % 2))) l1 w1 h1 ix1 r
+      → Outcome (held l w h used) (store k 0 (sourceAt byte) (held l w h used)) l1 w1 h1 ix1 r
   source-branch byte least most a = rw (letter-stored (o .legible .few) (legible-sound (o .legible)) byte least most) a
 
   -- an input for which nothing is scheduled
   pub input-stays : (c : Circuit) (time n value : ℕ) {byte : ℕ} → value < used → Due k (c .schedule) time n byte → byte ≡ noSource
-      → Outcome (tableOf (columns l w h) used) (store k 0 (inputAfter k c (tableOf (columns l w h) used) time n value) (tableOf (columns l w h) used)) l w h ix (put false value used)
+      → Outcome (held l w h used) (store k 0 (inputAfter k c (held l w h used) time n value) (held l w h used)) l w h ix (put Going value used)
   input-stays c time n value {byte} small due none =
-      own-outcome o value (inputAfter k c (tableOf (columns l w h) used) time n value) small
-      (λ p _. sym (due .is p (numberAt k (tableOf (columns l w h) used) value p) ∙ rw (eq-eqb byte noSource none)))
+      own-outcome o value (inputAfter k c (held l w h used) time n value) small
+      (λ p _. sym (due .is p (numberAt k (held l w h used) value p) ∙ rw (eq-eqb byte noSource none)))
 
   -- an input that takes a source
   pub input-takes : (c : Circuit) (time n value : ℕ) {byte : ℕ} → Due k (c .schedule) time n byte → (byte ≡ noSource → ⊥) → {l1 w1 h1 ix1 : List ℕ} {r : Put}
-      → Outcome (tableOf (columns l w h) used) (store k 0 (sourceAt byte) (tableOf (columns l w h) used)) l1 w1 h1 ix1 r
-      → Outcome (tableOf (columns l w h) used) (store k 0 (inputAfter k c (tableOf (columns l w h) used) time n value) (tableOf (columns l w h) used)) l1 w1 h1 ix1 r
+      → Outcome (held l w h used) (store k 0 (sourceAt byte) (held l w h used)) l1 w1 h1 ix1 r
+      → Outcome (held l w h used) (store k 0 (inputAfter k c (held l w h used) time n value) (held l w h used)) l1 w1 h1 ix1 r
   input-takes c time n value {byte} due some {l1} {w1} {h1} {ix1} {r} a =
-      subst (λ (s : Stored). Outcome (tableOf (columns l w h) used) s l1 w1 h1 ix1 r)
-      (store-ext k 0 (sourceAt byte) (inputAfter k c (tableOf (columns l w h) used) time n value) (tableOf (columns l w h) used)
-      (λ p _. sym (due .is p (numberAt k (tableOf (columns l w h) used) value p) ∙ rw (ne-eqb byte noSource some))))
+      subst (λ (s : Stored). Outcome (held l w h used) s l1 w1 h1 ix1 r)
+      (store-ext k 0 (sourceAt byte) (inputAfter k c (held l w h used) time n value) (held l w h used)
+      (λ p _. sym (due .is p (numberAt k (held l w h used) value p) ∙ rw (ne-eqb byte noSource some))))
       a
 
   -- an input
   pub value-input : (c : Circuit) (time n value change : ℕ) → isInput c n ≡ true → {l1 w1 h1 ix1 : List ℕ} {r : Put}
-      → Outcome (tableOf (columns l w h) used) (store k 0 (inputAfter k c (tableOf (columns l w h) used) time n value) (tableOf (columns l w h) used)) l1 w1 h1 ix1 r
-      → Outcome (tableOf (columns l w h) used) (store k 0 (valueAfter k c (tableOf (columns l w h) used) time n value change) (tableOf (columns l w h) used)) l1 w1 h1 ix1 r
+      → Outcome (held l w h used) (store k 0 (inputAfter k c (held l w h used) time n value) (held l w h used)) l1 w1 h1 ix1 r
+      → Outcome (held l w h used) (store k 0 (valueAfter k c (held l w h used) time n value change) (held l w h used)) l1 w1 h1 ix1 r
   value-input c time n value change e {l1} {w1} {h1} {ix1} {r} a =
       subst
       (λ (b : Bool).
-      Outcome (tableOf (columns l w h) used) (store k 0 (λ p. cond b (inputAfter k c (tableOf (columns l w h) used) time n value p) (flip time (numberAt k (tableOf (columns l w h) used) value p) (numberAt k (tableOf (columns l w h) used) change p))) (tableOf (columns l w h) used)) l1 w1 h1 ix1 r)
+      Outcome (held l w h used) (store k 0 (λ p. cond b (inputAfter k c (held l w h used) time n value p) (flip time (numberAt k (held l w h used) value p) (numberAt k (held l w h used) change p))) (held l w h used)) l1 w1 h1 ix1 r)
       (sym e) a
 
   -- an inner node
   pub value-inner : (c : Circuit) (time n value change : ℕ) → isInput c n ≡ false → {l1 w1 h1 ix1 : List ℕ} {r : Put}
-      → Outcome (tableOf (columns l w h) used) (store k 0 (applied k (tableOf (columns l w h) used) (Flip time) value change) (tableOf (columns l w h) used)) l1 w1 h1 ix1 r
-      → Outcome (tableOf (columns l w h) used) (store k 0 (valueAfter k c (tableOf (columns l w h) used) time n value change) (tableOf (columns l w h) used)) l1 w1 h1 ix1 r
+      → Outcome (held l w h used) (store k 0 (applied k (held l w h used) (Flip time) value change) (held l w h used)) l1 w1 h1 ix1 r
+      → Outcome (held l w h used) (store k 0 (valueAfter k c (held l w h used) time n value change) (held l w h used)) l1 w1 h1 ix1 r
   value-inner c time n value change e {l1} {w1} {h1} {ix1} {r} a =
       subst
       (λ (b : Bool).
-      Outcome (tableOf (columns l w h) used) (store k 0 (λ p. cond b (inputAfter k c (tableOf (columns l w h) used) time n value p) (flip time (numberAt k (tableOf (columns l w h) used) value p) (numberAt k (tableOf (columns l w h) used) change p))) (tableOf (columns l w h) used)) l1 w1 h1 ix1 r)
+      Outcome (held l w h used) (store k 0 (λ p. cond b (inputAfter k c (held l w h used) time n value p) (flip time (numberAt k (held l w h used) value p) (numberAt k (held l w h used) change p))) (held l w h used)) l1 w1 h1 ix1 r)
       (sym e) a
 
   -- every used entry is an operand with all letters
-  pub whole-operand : (e : ℕ) → e < used → Operand k (tableOf (columns l w h) used) used k e
+  pub whole-operand : (e : ℕ) → e < used → Operand k (held l w h used) used k e
   whole-operand e small = record { within = small; from = omega arith }
 
 -- the value of a start
@@ -187,12 +116,12 @@ state-timeless c t r p = refl
 
 -- the value after T, read in a table that has the numbers of the run's
 module _ (net l w h : List ℕ) (r : Run) (values-long : length (r .values) ≡ mostNodes) (changes-long : length (r .changes) ≡ mostNodes) (few : at net nodesPlace ≤ mostNodes)
-    (o : Legible (at net lettersPlace) l w h (r .used)) (sound : runSound (netCircuit net) (tableOf (columns l w h) (r .used)) (runOf (netCircuit net) r) ≡ true) where
+    (o : Legible (at net lettersPlace) l w h (r .used)) (sound : runSound (netCircuit net) (held l w h (r .used)) (runOf (netCircuit net) r) ≡ true) where
   abbrev c : Circuit
   c = netCircuit net
 
   abbrev t : Table
-  t = tableOf (columns l w h) (r .used)
+  t = held l w h (r .used)
 
   -- the entries are entries of its table
   pub values-used : (i : ℕ) → i < at net nodesPlace → getD (r .values) i 0 < r .used
@@ -213,9 +142,9 @@ module _ (net l w h : List ℕ) (r : Run) (values-long : length (r .values) ≡ 
   change-state = change-is net l w h r values-long changes-long few o sound
 
   pub arrive-same : (time i p : ℕ) (u : Table) → i < at net nodesPlace
-      → ((e : ℕ) → e < r .used → numberAt (at net lettersPlace) u e p ≡ numberAt (at net lettersPlace) (tableOf (columns l w h) (r .used)) e p)
+      → ((e : ℕ) → e < r .used → numberAt (at net lettersPlace) u e p ≡ numberAt (at net lettersPlace) (held l w h (r .used)) e p)
       → valueAfter (at net lettersPlace) (netCircuit net) u time (2 + i) (getD (r .values) i 0) (getD (r .changes) i 0) p
-      ≡ valueAt (stepped (netCircuit net) time p (stateOf (netCircuit net) (tableOf (columns l w h) (r .used)) (runOf (netCircuit net) r) p)) (2 + i)
+      ≡ valueAt (stepped (netCircuit net) time p (stateOf (netCircuit net) (held l w h (r .used)) (runOf (netCircuit net) r) p)) (2 + i)
   arrive-same time i p u h same =
       let s : State = stateOf c t (runOf c r) p in
       let numbered : Numbered c (2 + i) = record { least = omega arith; most = omega (arith, nodes-length net) } in
@@ -229,17 +158,17 @@ module _ (net l w h : List ℕ) (r : Run) (values-long : length (r .values) ≡ 
 
   -- the same of the run without its time
   pub arrive-next : (time i p : ℕ) (u : Table) → i < at net nodesPlace
-      → ((e : ℕ) → e < r .used → numberAt (at net lettersPlace) u e p ≡ numberAt (at net lettersPlace) (tableOf (columns l w h) (r .used)) e p)
+      → ((e : ℕ) → e < r .used → numberAt (at net lettersPlace) u e p ≡ numberAt (at net lettersPlace) (held l w h (r .used)) e p)
       → valueAfter (at net lettersPlace) (netCircuit net) u time (2 + i) (getD (r .values) i 0) (getD (r .changes) i 0) p
-      ≡ arrivals (netCircuit net) (tableOf (columns l w h) (r .used)) (r .used) (r .values) (r .changes) time (2 + i) p
+      ≡ arrivals (netCircuit net) (held l w h (r .used)) (r .used) (r .values) (r .changes) time (2 + i) p
   arrive-next time i p u h same = arrive-same time i p u h same ∙ ap (λ (s : State). valueAt (stepped c time p s) (2 + i)) (sym (state-timeless c t r p))
 
 -- what is stored does not read the run's time
-pub arrive-done : (c : Circuit) (t : Table) (r : Run) (k time : ℕ) {l w h ix : List ℕ} {full : Bool} {used : ℕ} {entries : List ℕ}
-    → OutcomeAll t (storeAll k (map (arrivals c t (r .used) (r .values) (r .changes) time) (nodeNumbers c)) t) l w h ix full used entries
-    → OutcomeAll t (storeAll k (map (λ (n : ℕ) (p : ℕ). valueAt (stepped c time p (stateOf c t (runOf c r) p)) n) (nodeNumbers c)) t) l w h ix full used entries
-arrive-done c t r k time {l} {w} {h} {ix} {full} {used} {entries} a =
-    subst (λ (s : StoredAll). OutcomeAll t s l w h ix full used entries)
+pub arrive-done : (c : Circuit) (t : Table) (r : Run) (k time : ℕ) {l w h ix : List ℕ} {stop : Stop} {used : ℕ} {entries : List ℕ}
+    → OutcomeAll t (storeAll k (map (arrivals c t (r .used) (r .values) (r .changes) time) (nodeNumbers c)) t) l w h ix stop used entries
+    → OutcomeAll t (storeAll k (map (λ (n : ℕ) (p : ℕ). valueAt (stepped c time p (stateOf c t (runOf c r) p)) n) (nodeNumbers c)) t) l w h ix stop used entries
+arrive-done c t r k time {l} {w} {h} {ix} {stop} {used} {entries} a =
+    subst (λ (s : StoredAll). OutcomeAll t s l w h ix stop used entries)
     (storeAll-each k (arrivals c t (r .used) (r .values) (r .changes) time) (λ (n : ℕ) (p : ℕ). valueAt (stepped c time p (stateOf c t (runOf c r) p)) n) (nodeNumbers c) t
     (λ n p _. ap (λ (s : State). valueAt (stepped c time p s) n) (state-timeless c t r p)))
     a

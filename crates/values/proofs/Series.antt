@@ -1,27 +1,30 @@
 -- A loop that stores function after function: nothing stored, one more, and no room.
 use mathlib.Core.Path.{_≡_, refl, sym, _∙_, ap, subst}
 use mathlib.Core.List.{List, [], _∷_, _++_, map}
-use mathlib.Core.Bool.{true, false, true≢false}
+use mathlib.Core.Bool.{true, false}
 use Prim.Native.Nat.{ℕ, zero, suc, _+_, _-_, _<_, _≤_}
 use native.Mathlib.Omega.{arith}
 use lib.ListN.{length, set, replicate, length-map}
-use borrow.Author.Tests.{lt-ltb, le-ltb}
 use Rattle.lists.specs.Padded.{padded}
 use Rattle.lists.proofs.Padded.{padded-none, padded-put}
 use Rattle.lists.proofs.Map.{map-append}
+use Rattle.lists.proofs.Cases.{true-false}
 use Rattle.format.specs.Circuit.{firstNodeNumber}
 use Rattle.format.specs.Legal.{mostNodes}
 use Rattle.diagram.specs.Pattern.{mostLetters, patterns}
 use Rattle.diagram.specs.Table.{Table, numberAt}
 use Rattle.diagram.specs.Store.{Stored, store}
-use Rattle.diagram.specs.Call.{tableOf}
+use Rattle.diagram.specs.Held.{held}
 use Rattle.diagram.proofs.Sound.{Sound}
 use Rattle.diagram.proofs.Add.{Extends, extends-refl}
 use Rattle.diagram.proofs.Number.{numberAt-extends}
 use Rattle.diagram.proofs.Store.{store-stored, store-ext}
 use Rattle.table.specs.declared.Put.{Put}
-use Rattle.table.specs.Holds.{columns, Holds, Outcome}
-use Rattle.table.proofs.Outcomes.{holds-fits, holds-table, holds-kept, kept-extends, outcome-over}
+use Rattle.table.specs.declared.Stop.the-variants.{Going}
+use Rattle.table.specs.Stop.{stopped}
+use Rattle.table.specs.Holds.{Holds, Outcome}
+use Rattle.table.proofs.Stops.{stop-more, going-fits}
+use Rattle.table.proofs.Outcomes.{holds-fits, holds-table, holds-kept, kept-extends, outcome-fits}
 use Rattle.functions.specs.Open.{Open}
 use Rattle.functions.proofs.Carry.{legible-sound, legible-long, open-next}
 use Rattle.rules.specs.State.{upFrom}
@@ -74,10 +77,10 @@ unfolding upFrom
 up-last i m = up-append i 1 m
 
 -- nothing stored yet
-pub series-none : (k : ℕ) {l w h ix : List ℕ} {t : Table} {used : ℕ} → Holds l w h ix t used → OutcomeAll t (storeAll k [] t) l w h ix false used (replicate mostNodes 0)
+pub series-none : (k : ℕ) {l w h ix : List ℕ} {t : Table} {used : ℕ} → Holds l w h ix t used → OutcomeAll t (storeAll k [] t) l w h ix Going used (replicate mostNodes 0)
 series-none k {l} {w} {h} {ix} {t} {used} g =
     rw (store-none k t) record {
-      full-is = sym (le-ltb (length l) (length t) (holds-fits g));
+      stop-is = going-fits (length l) (length t) (holds-fits g);
       entries-are = λ _. sym (padded-none mostNodes 0);
       holds = λ _. g;
       kept = holds-kept g (extends-refl t);
@@ -89,13 +92,13 @@ module _ {k : ℕ} {t : Table} (few : k ≤ mostLetters) (sound : Sound k t) (fs
 
   -- one more
   pub series-next : {l w h ix l1 w1 h1 ix1 : List ℕ} {used : ℕ} {entries : List ℕ} {r : Put}
-      → OutcomeAll t (storeAll k fs t) l w h ix false used entries
-      → Outcome (storeAll k fs t .table) (store k 0 f (storeAll k fs t .table)) l1 w1 h1 ix1 r → r .full ≡ false → length fs < mostNodes
-      → OutcomeAll t (storeAll k (fs ++ f ∷ []) t) l1 w1 h1 ix1 false (r .used) (set entries (length fs) (r .entry))
-  series-next {entries = entries} {r = r} a b room few-functions =
+      → OutcomeAll t (storeAll k fs t) l w h ix Going used entries
+      → Outcome (storeAll k fs t .table) (store k 0 f (storeAll k fs t .table)) l1 w1 h1 ix1 r → stopped (r .stop) ≡ false → length fs < mostNodes
+      → OutcomeAll t (storeAll k (fs ++ f ∷ []) t) l1 w1 h1 ix1 Going (r .used) (set entries (length fs) (r .entry))
+  series-next {l1 = l1} {entries = entries} {r = r} a b room few-functions =
       let all : AreStored k fs t (storeAll k fs t) = all-stored fs t few sound in
       rw (storeAll-last k fs f t) record {
-        full-is = sym room ∙ b .full;
+        stop-is = going-fits (length l1) (length (store k 0 f u .table)) (outcome-fits b room);
         entries-are = λ _.
             ap (λ (es : List ℕ). set es (length fs) (r .entry)) (a .entries-are refl)
             ∙ padded-put mostNodes (length fs) 0 (r .entry) (storeAll k fs t .entries) (all .count) few-functions
@@ -105,9 +108,9 @@ module _ {k : ℕ} {t : Table} (few : k ≤ mostLetters) (sound : Sound k t) (fs
       }
 
   -- no room, whatever comes after
-  pub series-stop : {l1 w1 h1 ix1 : List ℕ} {r : Put} → Outcome (storeAll k fs t .table) (store k 0 f (storeAll k fs t .table)) l1 w1 h1 ix1 r → r .full ≡ true
-      → (rest : List (ℕ → ℕ)) (used : ℕ) (entries : List ℕ) → OutcomeAll t (storeAll k (fs ++ f ∷ rest) t) l1 w1 h1 ix1 true used entries
-  series-stop {l1} b full rest used entries =
+  pub series-stop : {l1 w1 h1 ix1 : List ℕ} {r : Put} → Outcome (storeAll k fs t .table) (store k 0 f (storeAll k fs t .table)) l1 w1 h1 ix1 r → stopped (r .stop) ≡ true
+      → (rest : List (ℕ → ℕ)) (used : ℕ) (entries : List ℕ) → OutcomeAll t (storeAll k (fs ++ f ∷ rest) t) l1 w1 h1 ix1 (r .stop) used entries
+  series-stop {l1 = l1} {r = r} b full rest used entries =
       let all : AreStored k fs t (storeAll k fs t) = all-stored fs t few sound in
       let one : AreStored k (f ∷ []) u (storeAll k (f ∷ []) u) = all-stored (f ∷ []) u few (all .sound) in
       let s : Stored = store k 0 f u in
@@ -116,26 +119,26 @@ module _ {k : ℕ} {t : Table} (few : k ≤ mostLetters) (sound : Sound k t) (fs
       let is : storeAll k (fs ++ f ∷ rest) t .table ≡ storeAll k rest (s .table) .table =
       ap (λ (v : StoredAll). v .table) (storeAll-append k fs (f ∷ rest) t) ∙ ap (λ (v : StoredAll). v .table) (store-next k f rest u) in
       record {
-        full-is = sym (lt-ltb (length l1) (length (storeAll k (fs ++ f ∷ rest) t .table)) (rw is (omega (arith, outcome-over b full))));
-        entries-are = λ z. absurd (true≢false z);
-        holds = λ z. absurd (true≢false z);
+        stop-is = stop-more (length l1) (length (s .table)) (b .stop) full (length (storeAll k (fs ++ f ∷ rest) t .table)) (rw is more);
+        entries-are = λ z. true-false (stopped (r .stop)) full z;
+        holds = λ z. true-false (stopped (r .stop)) full z;
         kept = kept-extends (all .extends) (b .kept);
       }
 
 -- The node records in turn: `g n` is stored for node n.
 module _ {k : ℕ} {l w h ix : List ℕ} {used : ℕ} (o : Open k l w h ix used) (g : ℕ → ℕ → ℕ) where
   abbrev first : Table
-  first = tableOf (columns l w h) used
+  first = held l w h used
 
   sound-first : Sound k first
   sound-first = legible-sound (o .legible)
 
   -- before the first node record
-  pub nodes-none : OutcomeAll (tableOf (columns l w h) used) (firstStored k g 0 (tableOf (columns l w h) used)) l w h ix false used (replicate mostNodes 0)
+  pub nodes-none : OutcomeAll (held l w h used) (firstStored k g 0 (held l w h used)) l w h ix Going used (replicate mostNodes 0)
   unfolding upFrom
   nodes-none = series-none k (o .holds)
 
-  module _ (i : ℕ) {l1 w1 h1 ix1 : List ℕ} {used1 : ℕ} {entries : List ℕ} (a : OutcomeAll (tableOf (columns l w h) used) (firstStored k g i (tableOf (columns l w h) used)) l1 w1 h1 ix1 false used1 entries) where
+  module _ (i : ℕ) {l1 w1 h1 ix1 : List ℕ} {used1 : ℕ} {entries : List ℕ} (a : OutcomeAll (held l w h used) (firstStored k g i (held l w h used)) l1 w1 h1 ix1 Going used1 entries) where
     all-first : AreStored k (map g (upFrom i firstNodeNumber)) first (firstStored k g i first)
     all-first = all-stored (map g (upFrom i firstNodeNumber)) first (o .legible .few) sound-first
 
@@ -144,11 +147,11 @@ module _ {k : ℕ} {l w h ix : List ℕ} {used : ℕ} (o : Open k l w h ix used)
     nodes-open = open-next (o .legible .few) (all-first .sound) (a .holds refl)
 
     -- and hold the table as it was at first, and more
-    pub nodes-extends : Extends (tableOf (columns l w h) used) (tableOf (columns l1 w1 h1) used1)
+    pub nodes-extends : Extends (held l w h used) (held l1 w1 h1 used1)
     nodes-extends = rw (holds-table (a .holds refl)) (all-first .extends)
 
     -- so that its entries keep their numbers
-    pub nodes-number : (e p : ℕ) → e < used → numberAt k (tableOf (columns l1 w1 h1) used1) e p ≡ numberAt k (tableOf (columns l w h) used) e p
+    pub nodes-number : (e p : ℕ) → e < used → numberAt k (held l1 w1 h1 used1) e p ≡ numberAt k (held l w h used) e p
     nodes-number e p small =
         let long : length first ≡ used = legible-long (o .legible) in
         numberAt-extends e p (o .legible .few) sound-first nodes-extends (omega arith)
@@ -161,25 +164,25 @@ module _ {k : ℕ} {l w h ix : List ℕ} {used : ℕ} (o : Open k l w h ix used)
     count-first : length (map g (upFrom i firstNodeNumber)) ≡ i
     count-first = length-map (upFrom i firstNodeNumber) g ∙ up-length i firstNodeNumber
 
-    module _ (f : ℕ → ℕ) {l2 w2 h2 ix2 : List ℕ} {r : Put} (b : Outcome (tableOf (columns l1 w1 h1) used1) (store k 0 f (tableOf (columns l1 w1 h1) used1)) l2 w2 h2 ix2 r)
+    module _ (f : ℕ → ℕ) {l2 w2 h2 ix2 : List ℕ} {r : Put} (b : Outcome (held l1 w1 h1 used1) (store k 0 f (held l1 w1 h1 used1)) l2 w2 h2 ix2 r)
         (same : (p : ℕ) → p < patterns k → f p ≡ g (firstNodeNumber + i) p) where
       own : Outcome (firstStored k g i first .table) (store k 0 (g (firstNodeNumber + i)) (firstStored k g i first .table)) l2 w2 h2 ix2 r
       own =
           subst (λ (v : Table). Outcome v (store k 0 (g (firstNodeNumber + i)) v) l2 w2 h2 ix2 r) (holds-table (a .holds refl))
-          (subst (λ (s : Stored). Outcome (tableOf (columns l1 w1 h1) used1) s l2 w2 h2 ix2 r) (store-ext k 0 f (g (firstNodeNumber + i)) (tableOf (columns l1 w1 h1) used1) same) b)
+          (subst (λ (s : Stored). Outcome (held l1 w1 h1 used1) s l2 w2 h2 ix2 r) (store-ext k 0 f (g (firstNodeNumber + i)) (held l1 w1 h1 used1) same) b)
 
       -- node record i
-      pub nodes-next : r .full ≡ false → i < mostNodes
-          → OutcomeAll (tableOf (columns l w h) used) (firstStored k g (i + 1) (tableOf (columns l w h) used)) l2 w2 h2 ix2 false (r .used) (set entries i (r .entry))
+      pub nodes-next : stopped (r .stop) ≡ false → i < mostNodes
+          → OutcomeAll (held l w h used) (firstStored k g (i + 1) (held l w h used)) l2 w2 h2 ix2 Going (r .used) (set entries i (r .entry))
       nodes-next room small =
-          let z : OutcomeAll first (storeAll k (map g (upFrom i firstNodeNumber) ++ g (firstNodeNumber + i) ∷ []) first) l2 w2 h2 ix2 false (r .used) (set entries i (r .entry)) =
-          subst (λ (j : ℕ). OutcomeAll first (storeAll k (map g (upFrom i firstNodeNumber) ++ g (firstNodeNumber + i) ∷ []) first) l2 w2 h2 ix2 false (r .used) (set entries j (r .entry))) count-first
+          let z : OutcomeAll first (storeAll k (map g (upFrom i firstNodeNumber) ++ g (firstNodeNumber + i) ∷ []) first) l2 w2 h2 ix2 Going (r .used) (set entries i (r .entry)) =
+          subst (λ (j : ℕ). OutcomeAll first (storeAll k (map g (upFrom i firstNodeNumber) ++ g (firstNodeNumber + i) ∷ []) first) l2 w2 h2 ix2 Going (r .used) (set entries j (r .entry))) count-first
           (series-next (o .legible .few) sound-first (map g (upFrom i firstNodeNumber)) (g (firstNodeNumber + i)) a own room (rw count-first small)) in
           rw (up-last i firstNodeNumber, map-append g (upFrom i firstNodeNumber) ((firstNodeNumber + i) ∷ [])) z
 
       -- no room for it, so none for n node records
-      pub nodes-stop : r .full ≡ true → (n : ℕ) → i < n → (most : ℕ) (written : List ℕ)
-          → OutcomeAll (tableOf (columns l w h) used) (firstStored k g n (tableOf (columns l w h) used)) l2 w2 h2 ix2 true most written
+      pub nodes-stop : stopped (r .stop) ≡ true → (n : ℕ) → i < n → (most : ℕ) (written : List ℕ)
+          → OutcomeAll (held l w h used) (firstStored k g n (held l w h used)) l2 w2 h2 ix2 (r .stop) most written
       nodes-stop full n small most written =
           let split : n ≡ i + suc (n - i - 1) = omega arith in
           let e : map g (upFrom n firstNodeNumber) ≡ map g (upFrom i firstNodeNumber) ++ g (firstNodeNumber + i) ∷ map g (upFrom (n - i - 1) (suc (firstNodeNumber + i))) =
@@ -197,7 +200,7 @@ pub record Storing (n k : ℕ) (g : ℕ → ℕ → ℕ) (l₀ w₀ h₀ ix₀ :
   pub high-long : length h ≡ length h₀
   pub index-long : length ix ≡ length ix₀
   pub first-open : Open k l₀ w₀ h₀ ix₀ used₀
-  pub outcome : OutcomeAll (tableOf (columns l₀ w₀ h₀) used₀) (firstStored k g i (tableOf (columns l₀ w₀ h₀) used₀)) l w h ix false used entries
+  pub outcome : OutcomeAll (held l₀ w₀ h₀ used₀) (firstStored k g i (held l₀ w₀ h₀ used₀)) l w h ix Going used entries
 
 pub storing-first : (n : ℕ) {k : ℕ} (g : ℕ → ℕ → ℕ) {l w h ix : List ℕ} {used : ℕ} → Open k l w h ix used → Storing n k g l w h ix used l w h ix used (replicate mostNodes 0) 0
 storing-first n g o = record {
@@ -215,15 +218,15 @@ module _ {n k : ℕ} {g : ℕ → ℕ → ℕ} {l₀ w₀ h₀ ix₀ : List ℕ}
   pub storing-open : Open k l w h ix used
   storing-open = nodes-open (s .first-open) g i (s .outcome)
 
-  pub storing-number : (e p : ℕ) → e < used₀ → numberAt k (tableOf (columns l w h) used) e p ≡ numberAt k (tableOf (columns l₀ w₀ h₀) used₀) e p
+  pub storing-number : (e p : ℕ) → e < used₀ → numberAt k (held l w h used) e p ≡ numberAt k (held l₀ w₀ h₀ used₀) e p
   storing-number = nodes-number (s .first-open) g i (s .outcome)
 
   pub storing-longer : used₀ ≤ used
   storing-longer = nodes-longer (s .first-open) g i (s .outcome)
 
   -- record i is stored
-  pub storing-next : (f : ℕ → ℕ) {l1 w1 h1 ix1 : List ℕ} {r : Put} → Outcome (tableOf (columns l w h) used) (store k 0 f (tableOf (columns l w h) used)) l1 w1 h1 ix1 r
-      → ((p : ℕ) → p < patterns k → f p ≡ g (firstNodeNumber + i) p) → r .full ≡ false → i < n → n ≤ mostNodes
+  pub storing-next : (f : ℕ → ℕ) {l1 w1 h1 ix1 : List ℕ} {r : Put} → Outcome (held l w h used) (store k 0 f (held l w h used)) l1 w1 h1 ix1 r
+      → ((p : ℕ) → p < patterns k → f p ≡ g (firstNodeNumber + i) p) → stopped (r .stop) ≡ false → i < n → n ≤ mostNodes
       → length l1 ≡ length l → length w1 ≡ length w → length h1 ≡ length h → length ix1 ≡ length ix
       → Storing n k g l₀ w₀ h₀ ix₀ used₀ l1 w1 h1 ix1 (r .used) (set entries i (r .entry)) (i + 1)
   storing-next f b same room small few el ew eh eix = record {
@@ -237,13 +240,13 @@ module _ {n k : ℕ} {g : ℕ → ℕ → ℕ} {l₀ w₀ h₀ ix₀ : List ℕ}
   }
 
   -- there is no room for it
-  pub storing-stop : (f : ℕ → ℕ) {l1 w1 h1 ix1 : List ℕ} {r : Put} → Outcome (tableOf (columns l w h) used) (store k 0 f (tableOf (columns l w h) used)) l1 w1 h1 ix1 r
-      → ((p : ℕ) → p < patterns k → f p ≡ g (firstNodeNumber + i) p) → r .full ≡ true → i < n → (most : ℕ) (written : List ℕ)
-      → OutcomeAll (tableOf (columns l₀ w₀ h₀) used₀) (firstStored k g n (tableOf (columns l₀ w₀ h₀) used₀)) l1 w1 h1 ix1 true most written
+  pub storing-stop : (f : ℕ → ℕ) {l1 w1 h1 ix1 : List ℕ} {r : Put} → Outcome (held l w h used) (store k 0 f (held l w h used)) l1 w1 h1 ix1 r
+      → ((p : ℕ) → p < patterns k → f p ≡ g (firstNodeNumber + i) p) → stopped (r .stop) ≡ true → i < n → (most : ℕ) (written : List ℕ)
+      → OutcomeAll (held l₀ w₀ h₀ used₀) (firstStored k g n (held l₀ w₀ h₀ used₀)) l1 w1 h1 ix1 (r .stop) most written
   storing-stop f b same full small most written = nodes-stop (s .first-open) g i (s .outcome) f b same full n small most written
 
   -- all records are stored
-  pub storing-done : n ≤ i → OutcomeAll (tableOf (columns l₀ w₀ h₀) used₀) (firstStored k g n (tableOf (columns l₀ w₀ h₀) used₀)) l w h ix false used entries
+  pub storing-done : n ≤ i → OutcomeAll (held l₀ w₀ h₀ used₀) (firstStored k g n (held l₀ w₀ h₀ used₀)) l w h ix Going used entries
   storing-done out =
       let e : n ≡ i = omega (arith, s .within) in
       rw e (s .outcome)

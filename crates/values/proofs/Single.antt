@@ -1,7 +1,7 @@
 -- Single functions: an entry's own, a constant, never, a letter and its complement.
 use mathlib.Core.Path.{_≡_, refl, sym, _∙_, ap}
 use mathlib.Core.List.{List}
-use mathlib.Core.Bool.{false, cond}
+use mathlib.Core.Bool.{cond}
 use Prim.Native.Nat.{ℕ, zero, suc, _+_, _-_, _*_, _/_, _%_, _<_, _≤_}
 use native.Mathlib.Nat.{add-zero}
 use native.Mathlib.Omega.{arith}
@@ -11,12 +11,13 @@ use Rattle.format.specs.Source.{letterOf}
 use Rattle.diagram.specs.Pattern.{mostLetters, patterns, letterAt}
 use Rattle.diagram.specs.Table.{Table, never, numberAt}
 use Rattle.diagram.specs.Store.{Stored, stored, join, both, store}
-use Rattle.diagram.specs.Call.{tableOf}
+use Rattle.diagram.specs.Held.{held}
 use Rattle.diagram.proofs.Sound.{Sound}
 use Rattle.diagram.proofs.Number.{number-zeroth, number-first, number-second}
 use Rattle.diagram.proofs.Store.{store-present}
 use Rattle.diagram.proofs.Shannon.{split, store-halves}
-use Rattle.table.specs.Holds.{columns, Outcome}
+use Rattle.table.specs.declared.Stop.the-variants.{Going}
+use Rattle.table.specs.Holds.{Outcome}
 use Rattle.table.proofs.Outcomes.{put, outcome-there}
 use Rattle.functions.specs.Open.{Open}
 use Rattle.functions.proofs.Carry.{legible-sound, legible-long}
@@ -74,24 +75,24 @@ module _ {k : ℕ} {t : Table} (few : k ≤ mostLetters) (s : Sound k t) where
 -- the same of the table in open columns
 module _ {k : ℕ} {l w h ix : List ℕ} {used : ℕ} (o : Open k l w h ix used) where
   abbrev t : Table
-  t = tableOf (columns l w h) used
+  t = held l w h used
 
   sound : Sound k t
   sound = legible-sound (o .legible)
 
   -- an entry's own function stays that entry
-  pub own-outcome : (e : ℕ) (f : ℕ → ℕ) → e < used → ((p : ℕ) → p < patterns k → numberAt k (tableOf (columns l w h) used) e p ≡ f p)
-      → Outcome (tableOf (columns l w h) used) (store k 0 f (tableOf (columns l w h) used)) l w h ix (put false e used)
+  pub own-outcome : (e : ℕ) (f : ℕ → ℕ) → e < used → ((p : ℕ) → p < patterns k → numberAt k (held l w h used) e p ≡ f p)
+      → Outcome (held l w h used) (store k 0 f (held l w h used)) l w h ix (put Going e used)
   own-outcome e f small same =
       let long : length t ≡ used = legible-long (o .legible) in
       rw (own-stored (o .legible .few) sound e f (omega arith) same) (outcome-there (o .holds) e)
 
   -- a constant
   pub bit-outcome : (v : ℕ) (f : ℕ → ℕ) → v < 2 → ((p : ℕ) → p < patterns k → f p ≡ v)
-      → Outcome (tableOf (columns l w h) used) (store k 0 f (tableOf (columns l w h) used)) l w h ix (put false v used)
+      → Outcome (held l w h used) (store k 0 f (held l w h used)) l w h ix (put Going v used)
   bit-outcome v f small all = rw (bit-stored (o .legible .few) sound v f small all) (outcome-there (o .holds) v)
 
   -- never is entry 2
   pub never-outcome : (f : ℕ → ℕ) → ((p : ℕ) → p < patterns k → f p ≡ never)
-      → Outcome (tableOf (columns l w h) used) (store k 0 f (tableOf (columns l w h) used)) l w h ix (put false neverEntry used)
+      → Outcome (held l w h used) (store k 0 f (held l w h used)) l w h ix (put Going neverEntry used)
   never-outcome f all = rw (never-single (o .legible .few) sound f all) (outcome-there (o .holds) neverEntry)

@@ -1,24 +1,11 @@
 -- What arrives at a node at T, read off the schedule and off the entries of its value and its next change.
-use mathlib.Core.Path.{_≡_}
-use mathlib.Core.List.{List}
 use mathlib.Core.Bool.{cond}
-use Prim.Native.Nat.{ℕ, _+_, _*_, _<_}
-use lib.Dec.{eqb}
-use Rattle.format.specs.declared.Entry.{Entry}
+use Prim.Native.Nat.{ℕ}
 use Rattle.format.specs.Circuit.{Circuit}
 use Rattle.format.specs.Legal.{isInput}
 use Rattle.diagram.specs.Table.{Table, numberAt}
 use Rattle.diagram.specs.Operation.{flip}
-use Rattle.rules.specs.Arrive.{sourceAt, scheduled}
-
--- the number for "no source"
-abbrev pub noSource : ℕ
-noSource = 256
-
--- the source that a schedule puts at node n at T, or none
-pub record Due (letters : ℕ) (es : List Entry) (time n byte : ℕ) : Type 0 where
-  pub legal : (byte ≡ noSource → ⊥) → byte < 2 + 2 * letters
-  pub is : (p present : ℕ) → scheduled es time n p present ≡ cond (eqb byte noSource) present (sourceAt byte p)
+use Rattle.rules.specs.Arrive.{scheduled}
 
 -- the value of input n after T, whose entry was `value`
 abbrev pub inputAfter : ℕ → Circuit → Table → (time n value : ℕ) → ℕ → ℕ

@@ -3,15 +3,19 @@ use crate::Many;
 use crate::flip::flip;
 use crate::source::source;
 use net::inner::is_input;
+use net::schedule::NONE;
+use net::schedule::source_at;
 use record::Run;
 use table::Put;
+use table::Stop;
+use table::stopped;
 ghost use mathlib.Core.Path.{_≡_};
 ghost use mathlib.Core.Bool.{true};
 ghost use mathlib.Core.List.{map};
 ghost use Prim.Native.Nat.{ℕ, suc, _+_, _<_};
 ghost use Rattle.diagram.specs.Store.{store};
-ghost use Rattle.diagram.specs.Call.{tableOf};
-ghost use Rattle.table.specs.Holds.{columns, Outcome};
+ghost use Rattle.diagram.specs.Held.{held};
+ghost use Rattle.table.specs.Holds.{Outcome};
 ghost use Rattle.functions.specs.Open.{Open};
 ghost use Rattle.rules.specs.State.{valueAt, nodeNumbers};
 ghost use Rattle.rules.specs.Step.{stepped};
@@ -21,26 +25,7 @@ ghost use Rattle.record.specs.Leasts.{Leasts};
 ghost use Rattle.net.specs.Net.{nodesPlace, lettersPlace, at as atPlace, netCircuit};
 ghost use Rattle.net.specs.Laid.{Laid};
 ghost use Rattle.values.specs.All.{OutcomeAll};
-ghost use Rattle.values.specs.Arriving.{Due, inputAfter, valueAfter};
-
-// No source byte is as large.
-const NONE: u32 = 256;
-
-// The source that input n takes at `time`, or none.
-fn source_at(net: &[u32], time: u32, n: u32) -> u32
-    requires { ⌜ Laid (netCircuit (now net)) (now net) ⌝ }
-    ensures { λ r. ⌜ Due (atPlace (now (net .entry)) lettersPlace) (netCircuit (now (net .entry)) .schedule) time n r ⌝ }
-{
-    let count = net[net::ENTRIES] as usize;
-    let mut i = 0;
-    while i < count {
-        if (net[net::TIME + i] == time) & (net[net::INPUT + i] == n) {
-            return net[net::SOURCE + i];
-        }
-        i += 1;
-    }
-    NONE
-}
+ghost use Rattle.values.specs.Arriving.{inputAfter, valueAfter};
 
 // The value of input n after T: its source where one is scheduled, else the present entry.
 fn input_value(
@@ -55,12 +40,12 @@ fn input_value(
     value: u32,
 ) -> Put
     requires { ⌜ Laid (netCircuit (now net)) (now net) × Open (atPlace (now net) lettersPlace) (now letter) (now low) (now high) (now index) used × (value < used) ⌝ }
-    ensures { λ r. ⌜ Outcome (tableOf (columns (now (letter .entry)) (now (low .entry)) (now (high .entry))) used) (store (atPlace (now (net .entry)) lettersPlace) 0 (inputAfter (atPlace (now (net .entry)) lettersPlace) (netCircuit (now (net .entry))) (tableOf (columns (now (letter .entry)) (now (low .entry)) (now (high .entry))) used) time n value) (tableOf (columns (now (letter .entry)) (now (low .entry)) (now (high .entry))) used)) (now (letter .exit)) (now (low .exit)) (now (high .exit)) (now (index .exit)) r ⌝ }
+    ensures { λ r. ⌜ Outcome (held (now (letter .entry)) (now (low .entry)) (now (high .entry)) used) (store (atPlace (now (net .entry)) lettersPlace) 0 (inputAfter (atPlace (now (net .entry)) lettersPlace) (netCircuit (now (net .entry))) (held (now (letter .entry)) (now (low .entry)) (now (high .entry)) used) time n value) (held (now (letter .entry)) (now (low .entry)) (now (high .entry)) used)) (now (letter .exit)) (now (low .exit)) (now (high .exit)) (now (index .exit)) r ⌝ }
 {
     let byte = source_at(net, time, n);
     if byte == NONE {
         return Put {
-            full: false,
+            stop: Stop::Going,
             entry: value,
             used,
         };
@@ -84,8 +69,8 @@ fn value_after(
 ) -> Put
     requires { ⌜ Laid (netCircuit (now net)) (now net) × Open (atPlace (now net) lettersPlace) (now letter) (now low) (now high) (now index) used ⌝ }
     requires { ⌜ (n < 2 + atPlace (now net) nodesPlace) × (value < used) × (change < used) ⌝ }
-    requires { ⌜ Leasts (atPlace (now net) lettersPlace) (tableOf (columns (now letter) (now low) (now high)) used) (suc change) (now least) ⌝ }
-    ensures { λ r. ⌜ Outcome (tableOf (columns (now (letter .entry)) (now (low .entry)) (now (high .entry))) used) (store (atPlace (now (net .entry)) lettersPlace) 0 (valueAfter (atPlace (now (net .entry)) lettersPlace) (netCircuit (now (net .entry))) (tableOf (columns (now (letter .entry)) (now (low .entry)) (now (high .entry))) used) time n value change) (tableOf (columns (now (letter .entry)) (now (low .entry)) (now (high .entry))) used)) (now (letter .exit)) (now (low .exit)) (now (high .exit)) (now (index .exit)) r ⌝ }
+    requires { ⌜ Leasts (atPlace (now net) lettersPlace) (held (now letter) (now low) (now high) used) (suc change) (now least) ⌝ }
+    ensures { λ r. ⌜ Outcome (held (now (letter .entry)) (now (low .entry)) (now (high .entry)) used) (store (atPlace (now (net .entry)) lettersPlace) 0 (valueAfter (atPlace (now (net .entry)) lettersPlace) (netCircuit (now (net .entry))) (held (now (letter .entry)) (now (low .entry)) (now (high .entry)) used) time n value change) (held (now (letter .entry)) (now (low .entry)) (now (high .entry)) used)) (now (letter .exit)) (now (low .exit)) (now (high .exit)) (now (index .exit)) r ⌝ }
 {
     if is_input(net, n) {
         return input_value(net, letter, low, high, index, used, time, n, value);
@@ -118,9 +103,9 @@ pub fn arrive(
     least: &[u32],
 ) -> Many
     requires { ⌜ Laid (netCircuit (now net)) (now net) × Open (atPlace (now net) lettersPlace) (now letter) (now low) (now high) (now index) (r .used) ⌝ }
-    requires { ⌜ runSound (netCircuit (now net)) (tableOf (columns (now letter) (now low) (now high)) (r .used)) (runOf (netCircuit (now net)) r) ≡ true ⌝ }
-    requires { ⌜ Leasts (atPlace (now net) lettersPlace) (tableOf (columns (now letter) (now low) (now high)) (r .used)) (r .used) (now least) ⌝ }
-    ensures { λ x. ⌜ OutcomeAll (tableOf (columns (now (letter .entry)) (now (low .entry)) (now (high .entry))) (r .used)) (storeAll (atPlace (now (net .entry)) lettersPlace) (map (λ (n : ℕ) (p : ℕ). valueAt (stepped (netCircuit (now (net .entry))) time p (stateOf (netCircuit (now (net .entry))) (tableOf (columns (now (letter .entry)) (now (low .entry)) (now (high .entry))) (r .used)) (runOf (netCircuit (now (net .entry))) r) p)) n) (nodeNumbers (netCircuit (now (net .entry))))) (tableOf (columns (now (letter .entry)) (now (low .entry)) (now (high .entry))) (r .used))) (now (letter .exit)) (now (low .exit)) (now (high .exit)) (now (index .exit)) (x .full) (x .used) (x .entries) ⌝ }
+    requires { ⌜ runSound (netCircuit (now net)) (held (now letter) (now low) (now high) (r .used)) (runOf (netCircuit (now net)) r) ≡ true ⌝ }
+    requires { ⌜ Leasts (atPlace (now net) lettersPlace) (held (now letter) (now low) (now high) (r .used)) (r .used) (now least) ⌝ }
+    ensures { λ x. ⌜ OutcomeAll (held (now (letter .entry)) (now (low .entry)) (now (high .entry)) (r .used)) (storeAll (atPlace (now (net .entry)) lettersPlace) (map (λ (n : ℕ) (p : ℕ). valueAt (stepped (netCircuit (now (net .entry))) time p (stateOf (netCircuit (now (net .entry))) (held (now (letter .entry)) (now (low .entry)) (now (high .entry)) (r .used)) (runOf (netCircuit (now (net .entry))) r) p)) n) (nodeNumbers (netCircuit (now (net .entry))))) (held (now (letter .entry)) (now (low .entry)) (now (high .entry)) (r .used))) (now (letter .exit)) (now (low .exit)) (now (high .exit)) (now (index .exit)) (x .stop) (x .used) (x .entries) ⌝ }
 {
     let count = net[net::NODES] as usize;
     let values = r.values;
@@ -143,9 +128,10 @@ pub fn arrive(
             changes[i],
             least,
         );
-        if p.full {
+        let why = p.stop;
+        if stopped(why) {
             return Many {
-                full: true,
+                stop: why,
                 used: now,
                 entries: out,
             };
@@ -155,7 +141,7 @@ pub fn arrive(
         i += 1;
     }
     Many {
-        full: false,
+        stop: Stop::Going,
         used: now,
         entries: out,
     }

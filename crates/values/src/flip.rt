@@ -5,14 +5,16 @@ use functions::step::first_letter;
 use functions::step::join;
 use functions::step::parts;
 use table::Put;
+use table::Stop;
+use table::stopped;
 ghost use Prim.Native.Nat.{suc, _<_};
 ghost use lib.ListN.{length, getD};
 ghost use Rattle.diagram.specs.declared.Operation.the-variants.{Flip};
 ghost use Rattle.diagram.specs.Table.{terminal};
 ghost use Rattle.diagram.specs.Store.{add as addOf, store};
 ghost use Rattle.diagram.specs.Operation.{flip as flipOf, applied};
-ghost use Rattle.diagram.specs.Call.{tableOf};
-ghost use Rattle.table.specs.Holds.{columns, Holds, Outcome};
+ghost use Rattle.diagram.specs.Held.{held};
+ghost use Rattle.table.specs.Holds.{Holds, Outcome};
 ghost use Rattle.functions.specs.Open.{Open, Operand};
 ghost use Rattle.record.specs.Leasts.{Leasts};
 
@@ -28,8 +30,8 @@ fn leaf(
     b: u32,
 ) -> Put
     requires { ⌜ (a < length (now low)) × (b < length (now low)) ⌝ }
-    requires { ⌜ Holds (now letter) (now low) (now high) (now index) (tableOf (columns (now letter) (now low) (now high)) used) used ⌝ }
-    ensures { λ r. ⌜ Outcome (tableOf (columns (now (letter .entry)) (now (low .entry)) (now (high .entry))) used) (addOf (terminal (flipOf time (getD (now (low .entry)) a 0) (getD (now (low .entry)) b 0))) (tableOf (columns (now (letter .entry)) (now (low .entry)) (now (high .entry))) used)) (now (letter .exit)) (now (low .exit)) (now (high .exit)) (now (index .exit)) r ⌝ }
+    requires { ⌜ Holds (now letter) (now low) (now high) (now index) (held (now letter) (now low) (now high) used) used ⌝ }
+    ensures { λ r. ⌜ Outcome (held (now (letter .entry)) (now (low .entry)) (now (high .entry)) used) (addOf (terminal (flipOf time (getD (now (low .entry)) a 0) (getD (now (low .entry)) b 0))) (held (now (letter .entry)) (now (low .entry)) (now (high .entry)) used)) (now (letter .exit)) (now (low .exit)) (now (high .exit)) (now (index .exit)) r ⌝ }
 {
     let i = a as usize;
     let j = b as usize;
@@ -52,13 +54,13 @@ pub fn flip(
     least: &[u32],
 ) -> Put
     requires { ⌜ Open k (now letter) (now low) (now high) (now index) used ⌝ }
-    requires { ⌜ Operand k (tableOf (columns (now letter) (now low) (now high)) used) used left a × Operand k (tableOf (columns (now letter) (now low) (now high)) used) used left b ⌝ }
-    requires { ⌜ Leasts k (tableOf (columns (now letter) (now low) (now high)) used) (suc b) (now least) ⌝ }
-    ensures { λ r. ⌜ Outcome (tableOf (columns (now (letter .entry)) (now (low .entry)) (now (high .entry))) used) (store k 0 (applied k (tableOf (columns (now (letter .entry)) (now (low .entry)) (now (high .entry))) used) (Flip time) a b) (tableOf (columns (now (letter .entry)) (now (low .entry)) (now (high .entry))) used)) (now (letter .exit)) (now (low .exit)) (now (high .exit)) (now (index .exit)) r ⌝ }
+    requires { ⌜ Operand k (held (now letter) (now low) (now high) used) used left a × Operand k (held (now letter) (now low) (now high) used) used left b ⌝ }
+    requires { ⌜ Leasts k (held (now letter) (now low) (now high) used) (suc b) (now least) ⌝ }
+    ensures { λ r. ⌜ Outcome (held (now (letter .entry)) (now (low .entry)) (now (high .entry)) used) (store k 0 (applied k (held (now (letter .entry)) (now (low .entry)) (now (high .entry)) used) (Flip time) a b) (held (now (letter .entry)) (now (low .entry)) (now (high .entry)) used)) (now (letter .exit)) (now (low .exit)) (now (high .exit)) (now (index .exit)) r ⌝ }
 {
     if time < least[b as usize] {
         return Put {
-            full: false,
+            stop: Stop::Going,
             entry: a,
             used,
         };
@@ -73,7 +75,8 @@ pub fn flip(
     let b0 = pb.low;
     let less = left - 1;
     let p = flip(letter, low, high, index, used, k, time, a0, b0, less, least);
-    if p.full {
+    let why = p.stop;
+    if stopped(why) {
         return p;
     }
     let q = flip(
@@ -89,7 +92,8 @@ pub fn flip(
         less,
         least,
     );
-    if q.full {
+    let why = q.stop;
+    if stopped(why) {
         return q;
     }
     join(letter, low, high, index, q.used, m, p.entry, q.entry)

@@ -5,9 +5,11 @@ pub mod arrive;
 mod flip;
 pub mod source;
 
+use table::Stop;
+
 // An entry for each node record, 0 past them, unless there was no room.
 pub struct Many {
-    pub full: bool,
+    pub stop: Stop,
     pub used: u32,
     pub entries: [u32; 24],
 }

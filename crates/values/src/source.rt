@@ -2,11 +2,13 @@
 use crate::Many;
 use functions::step::join;
 use table::Put;
+use table::Stop;
+use table::stopped;
 ghost use Prim.Native.Nat.{ℕ, _+_, _*_, _<_};
 ghost use mathlib.Core.List.{map};
 ghost use Rattle.diagram.specs.Store.{store};
-ghost use Rattle.diagram.specs.Call.{tableOf};
-ghost use Rattle.table.specs.Holds.{columns, Outcome};
+ghost use Rattle.diagram.specs.Held.{held};
+ghost use Rattle.table.specs.Holds.{Outcome};
 ghost use Rattle.functions.specs.Open.{Open};
 ghost use Rattle.rules.specs.State.{valueAt, nodeNumbers};
 ghost use Rattle.rules.specs.Arrive.{sourceAt};
@@ -27,11 +29,11 @@ pub fn source(
     byte: u32,
 ) -> Put
     requires { ⌜ Open k (now letter) (now low) (now high) (now index) used × (byte < 2 + 2 * k) ⌝ }
-    ensures { λ r. ⌜ Outcome (tableOf (columns (now (letter .entry)) (now (low .entry)) (now (high .entry))) used) (store k 0 (sourceAt byte) (tableOf (columns (now (letter .entry)) (now (low .entry)) (now (high .entry))) used)) (now (letter .exit)) (now (low .exit)) (now (high .exit)) (now (index .exit)) r ⌝ }
+    ensures { λ r. ⌜ Outcome (held (now (letter .entry)) (now (low .entry)) (now (high .entry)) used) (store k 0 (sourceAt byte) (held (now (letter .entry)) (now (low .entry)) (now (high .entry)) used)) (now (letter .exit)) (now (low .exit)) (now (high .exit)) (now (index .exit)) r ⌝ }
 {
     if byte < 2 {
         return Put {
-            full: false,
+            stop: Stop::Going,
             entry: byte,
             used,
         };
@@ -51,7 +53,7 @@ pub fn sources(
     used: u32,
 ) -> Many
     requires { ⌜ Laid (netCircuit (now net)) (now net) × Open (atPlace (now net) lettersPlace) (now letter) (now low) (now high) (now index) used ⌝ }
-    ensures { λ r. ⌜ OutcomeAll (tableOf (columns (now (letter .entry)) (now (low .entry)) (now (high .entry))) used) (storeAll (atPlace (now (net .entry)) lettersPlace) (map (λ (n : ℕ) (p : ℕ). valueAt (started (netCircuit (now (net .entry))) p) n) (nodeNumbers (netCircuit (now (net .entry))))) (tableOf (columns (now (letter .entry)) (now (low .entry)) (now (high .entry))) used)) (now (letter .exit)) (now (low .exit)) (now (high .exit)) (now (index .exit)) (r .full) (r .used) (r .entries) ⌝ }
+    ensures { λ r. ⌜ OutcomeAll (held (now (letter .entry)) (now (low .entry)) (now (high .entry)) used) (storeAll (atPlace (now (net .entry)) lettersPlace) (map (λ (n : ℕ) (p : ℕ). valueAt (started (netCircuit (now (net .entry))) p) n) (nodeNumbers (netCircuit (now (net .entry))))) (held (now (letter .entry)) (now (low .entry)) (now (high .entry)) used)) (now (letter .exit)) (now (low .exit)) (now (high .exit)) (now (index .exit)) (r .stop) (r .used) (r .entries) ⌝ }
 {
     let count = net[net::NODES] as usize;
     let k = net[net::LETTERS];
@@ -60,9 +62,10 @@ pub fn sources(
     let mut i = 0;
     while i < count {
         let p = source(letter, low, high, index, now, k, net[net::START + i]);
-        if p.full {
+        let why = p.stop;
+        if stopped(why) {
             return Many {
-                full: true,
+                stop: why,
                 used: now,
                 entries: out,
             };
@@ -72,7 +75,7 @@ pub fn sources(
         i += 1;
     }
     Many {
-        full: false,
+        stop: Stop::Going,
         used: now,
         entries: out,
     }

@@ -8,7 +8,7 @@ use run::ask::Asked;
 use run::ask::ask_cell;
 use run::go::on_cell;
 ghost use Rattle.refusal.specs.Number.{replyNumber};
-ghost use Rattle.table.specs.Holds.{columns};
+ghost use Rattle.diagram.specs.Call.{columns};
 ghost use Rattle.demand.specs.ByValue.{onValue, byValue};
 ghost use Rattle.witness.specs.Holding.{held};
 

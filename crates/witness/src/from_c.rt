@@ -1,7 +1,7 @@
 // The calls from C, each held to its place in the demands.
 ghost use mathlib.Core.Path.{_≡_};
 ghost use lib.ListN.{length, getD};
-ghost use Rattle.table.specs.Holds.{columns};
+ghost use Rattle.diagram.specs.Call.{columns};
 ghost use Rattle.demand.specs.FromC.{fromC};
 ghost use Rattle.witness.specs.Holding.{held};
 

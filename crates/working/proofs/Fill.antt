@@ -12,11 +12,11 @@ use borrow.Author.Tests.{lt-ltb, le-ltb}
 use Rattle.lists.proofs.Cases.{eq-or-ne, lt-or-ge}
 use Rattle.diagram.specs.Pattern.{patterns}
 use Rattle.diagram.specs.Table.{Table, numberAt}
-use Rattle.diagram.specs.Call.{tableOf}
+use Rattle.diagram.specs.Held.{held}
 use Rattle.diagram.proofs.Add.{Extends, extends-refl, extends-trans}
 use Rattle.diagram.proofs.Number.{numberAt-extends, number-zeroth}
 use Rattle.table.specs.declared.Put.{Put}
-use Rattle.table.specs.Holds.{columns}
+use Rattle.table.specs.Stop.{stopped}
 use Rattle.functions.specs.Open.{Open}
 use Rattle.working.specs.Grown.{Means, Grown}
 use Rattle.working.specs.Many.{AllUsed, Filled, cell, Matrixed}
@@ -39,25 +39,25 @@ up-other n m ne =
 
 -- open columns: an entry and its numbers, in an extension
 module _ {letters : ℕ} {l w h ix : List ℕ} {used : ℕ} (o : Open letters l w h ix used) where
-  pub number-kept : {u : Table} → Extends (tableOf (columns l w h) used) u → (e p : ℕ) → e < used → numberAt letters u e p ≡ numberAt letters (tableOf (columns l w h) used) e p
+  pub number-kept : {u : Table} → Extends (held l w h used) u → (e p : ℕ) → e < used → numberAt letters u e p ≡ numberAt letters (held l w h used) e p
   number-kept x e p lt = numberAt-extends e p (open-few o) (open-sound o) x (omega (arith, open-long o))
 
-  pub means-kept : {u : Table} {e : ℕ} {f : ℕ → ℕ} → Extends (tableOf (columns l w h) used) u → Means letters (tableOf (columns l w h) used) e f → Means letters u e f
+  pub means-kept : {u : Table} {e : ℕ} {f : ℕ → ℕ} → Extends (held l w h used) u → Means letters (held l w h used) e f → Means letters u e f
   means-kept x m = means-extends (open-few o) (open-sound o) x m
 
   -- an entry means its own numbers
-  pub means-own : {e : ℕ} → e < used → Means letters (tableOf (columns l w h) used) e (numberAt letters (tableOf (columns l w h) used) e)
+  pub means-own : {e : ℕ} → e < used → Means letters (held l w h used) e (numberAt letters (held l w h used) e)
   means-own lt = record { within = omega (arith, open-long o); number = λ p _. refl }
 
   -- entry 0 is 0
-  pub means-zero : Means letters (tableOf (columns l w h) used) 0 (λ p. 0)
-  means-zero = record { within = omega (arith, open-long o, open-three o); number = λ p _. number-zeroth (tableOf (columns l w h) used) p (open-few o) (open-sound o) }
+  pub means-zero : Means letters (held l w h used) 0 (λ p. 0)
+  means-zero = record { within = omega (arith, open-long o, open-three o); number = λ p _. number-zeroth (held l w h used) p (open-few o) (open-sound o) }
 
   -- what is used in an extension
-  pub used-kept : {l2 w2 h2 ix2 : List ℕ} {used2 : ℕ} → Open letters l2 w2 h2 ix2 used2 → Extends (tableOf (columns l w h) used) (tableOf (columns l2 w2 h2) used2) → {e : ℕ} → e < used → e < used2
+  pub used-kept : {l2 w2 h2 ix2 : List ℕ} {used2 : ℕ} → Open letters l2 w2 h2 ix2 used2 → Extends (held l w h used) (held l2 w2 h2 used2) → {e : ℕ} → e < used → e < used2
   used-kept o2 x lt = omega (arith, x .longer, open-long o, open-long o2)
 
-  pub means-used : {e : ℕ} {f : ℕ → ℕ} → Means letters (tableOf (columns l w h) used) e f → e < used
+  pub means-used : {e : ℕ} {f : ℕ → ℕ} → Means letters (held l w h used) e f → e < used
   means-used m = omega (arith, m .within, open-long o)
 
 module _ {size letters : ℕ} {t : Table} {f : ℕ → ℕ → ℕ} {l w h ix : List ℕ} {used : ℕ} {entries : List ℕ} (s : Filled size letters t f l w h ix used entries) where
@@ -72,13 +72,13 @@ module _ {size letters : ℕ} {t : Table} {f : ℕ → ℕ → ℕ} {l w h ix : 
   pub filled-used : AllUsed size entries used
   filled-used m hm = means-used (s .opened) (s .means m hm)
 
-  module _ {g : ℕ → ℕ} {l2 w2 h2 ix2 : List ℕ} {r : Put} (q : Grown letters (tableOf (columns l w h) used) g l2 w2 h2 ix2 r) (room : r .full ≡ false) where
+  module _ {g : ℕ → ℕ} {l2 w2 h2 ix2 : List ℕ} {r : Put} (q : Grown letters (held l w h used) g l2 w2 h2 ix2 r) (room : stopped (r .stop) ≡ false) where
     -- a place gets the new entry
     pub filled-set : (n : ℕ) (f2 : ℕ → ℕ → ℕ) → n < length entries → ((p : ℕ) → p < patterns letters → g p ≡ f2 n p) → ((m p : ℕ) → m < size → (m ≡ n → ⊥) → p < patterns letters → f m p ≡ f2 m p)
         → Filled size letters t f2 l2 w2 h2 ix2 (r .used) (set entries n (r .entry))
     filled-set n f2 long same rest = record { opened = q .opened room; extends = extends-trans (s .extends) (q .extends room); means = each }
       where
-        each : (m : ℕ) → m < size → Means letters (tableOf (columns l2 w2 h2) (r .used)) (getD (set entries n (r .entry)) m 0) (f2 m)
+        each : (m : ℕ) → m < size → Means letters (held l2 w2 h2 (r .used)) (getD (set entries n (r .entry)) m 0) (f2 m)
         each m hm =
             ⊎-elim
             (λ (e : m ≡ n). rw (e, getD-set-same entries n (r .entry) 0 long) (means-same (q .means room) same))
@@ -99,7 +99,7 @@ pub record Filling (size most letters : ℕ) (t : Table) (new old : ℕ → ℕ 
 
 -- none of the places yet
 pub filling-first : {size letters : ℕ} (most : ℕ) (new old : ℕ → ℕ → ℕ) {l w h ix : List ℕ} {used : ℕ} {entries : List ℕ} → Open letters l w h ix used → length entries ≡ size
-    → ((m : ℕ) → m < size → Means letters (tableOf (columns l w h) used) (getD entries m 0) (old m)) → Filling size most letters (tableOf (columns l w h) used) new old l w h ix l w h ix used entries 0
+    → ((m : ℕ) → m < size → Means letters (held l w h used) (getD entries m 0) (old m)) → Filling size most letters (held l w h used) new old l w h ix l w h ix used entries 0
 filling-first most new old o long each = record {
   few = omega arith;
   long = long;
@@ -112,7 +112,7 @@ filling-first most new old o long each = record {
 
 module _ {size most letters : ℕ} {t : Table} {new old : ℕ → ℕ → ℕ} {l0 w0 h0 ix0 l w h ix : List ℕ} {used n : ℕ} {entries : List ℕ} (s : Filling size most letters t new old l0 w0 h0 ix0 l w h ix used entries n) where
   -- the next place
-  pub filling-next : {g : ℕ → ℕ} {l2 w2 h2 ix2 : List ℕ} {r : Put} → Grown letters (tableOf (columns l w h) used) g l2 w2 h2 ix2 r → r .full ≡ false → ((p : ℕ) → p < patterns letters → g p ≡ new n p) → n < most → most ≤ size
+  pub filling-next : {g : ℕ → ℕ} {l2 w2 h2 ix2 : List ℕ} {r : Put} → Grown letters (held l w h used) g l2 w2 h2 ix2 r → stopped (r .stop) ≡ false → ((p : ℕ) → p < patterns letters → g p ≡ new n p) → n < most → most ≤ size
       → length l2 ≡ length l → length w2 ≡ length w → length h2 ≡ length h → length ix2 ≡ length ix
       → Filling size most letters t new old l0 w0 h0 ix0 l2 w2 h2 ix2 (r .used) (set entries n (r .entry)) (n + 1)
   filling-next {r = r} q room same lt le a b c d = record {
@@ -152,7 +152,7 @@ pub record RowsFilling (letters : ℕ) (t : Table) (new old : ℕ → ℕ → �
 
 -- none of the rows yet
 pub rows-first : {letters : ℕ} (new old : ℕ → ℕ → ℕ → ℕ) {l w h ix : List ℕ} {used : ℕ} {joined : List (List ℕ)} → Open letters l w h ix used → length joined ≡ 24
-    → ((x y : ℕ) → x < 24 → y < 24 → Means letters (tableOf (columns l w h) used) (cell joined x y) (old x y)) → RowsFilling letters (tableOf (columns l w h) used) new old l w h ix l w h ix used joined 0
+    → ((x y : ℕ) → x < 24 → y < 24 → Means letters (held l w h used) (cell joined x y) (old x y)) → RowsFilling letters (held l w h used) new old l w h ix l w h ix used joined 0
 rows-first new old o long each = record {
   few = omega arith;
   long = long;
@@ -165,7 +165,7 @@ rows-first new old o long each = record {
 
 module _ {letters : ℕ} {t : Table} {new old : ℕ → ℕ → ℕ → ℕ} {l0 w0 h0 ix0 l w h ix : List ℕ} {used n : ℕ} {joined : List (List ℕ)} (s : RowsFilling letters t new old l0 w0 h0 ix0 l w h ix used joined n) where
   -- the next row
-  pub rows-next : {f : ℕ → ℕ → ℕ} {l2 w2 h2 ix2 : List ℕ} {used2 : ℕ} {row : List ℕ} → Filled 24 letters (tableOf (columns l w h) used) f l2 w2 h2 ix2 used2 row → ((y p : ℕ) → y < 24 → p < patterns letters → f y p ≡ new n y p) → n < 24
+  pub rows-next : {f : ℕ → ℕ → ℕ} {l2 w2 h2 ix2 : List ℕ} {used2 : ℕ} {row : List ℕ} → Filled 24 letters (held l w h used) f l2 w2 h2 ix2 used2 row → ((y p : ℕ) → y < 24 → p < patterns letters → f y p ≡ new n y p) → n < 24
       → length l2 ≡ length l → length w2 ≡ length w → length h2 ≡ length h → length ix2 ≡ length ix
       → RowsFilling letters t new old l0 w0 h0 ix0 l2 w2 h2 ix2 used2 (set joined n row) (n + 1)
   rows-next {f} {l2} {w2} {h2} {ix2} {used2} {row} q same lt a b c d = record {
@@ -178,7 +178,7 @@ module _ {letters : ℕ} {t : Table} {new old : ℕ → ℕ → ℕ → ℕ} {l0
     rows = record { opened = q .opened; extends = extends-trans (s .rows .extends) (q .extends); means = each };
   }
     where
-      each : (x y : ℕ) → x < 24 → y < 24 → Means letters (tableOf (columns l2 w2 h2) used2) (cell (set joined n row) x y) (rowsTo (n + 1) new old x y)
+      each : (x y : ℕ) → x < 24 → y < 24 → Means letters (held l2 w2 h2 used2) (cell (set joined n row) x y) (rowsTo (n + 1) new old x y)
       each x y hx hy =
           ⊎-elim
           (λ (e : x ≡ n).
@@ -194,5 +194,5 @@ module _ {letters : ℕ} {t : Table} {new old : ℕ → ℕ → ℕ → ℕ} {l0
   rows-done le = record { opened = s .rows .opened; extends = s .rows .extends; means = λ x y hx hy. means-same (s .rows .means x y hx hy) (λ p _. ap (λ (b : Bool). cond b (new x y p) (old x y p)) (lt-ltb x n (omega arith))) }
 
   -- a row that is still to come is an old one
-  pub rows-old : (x y : ℕ) → n ≤ x → x < 24 → y < 24 → Means letters (tableOf (columns l w h) used) (cell joined x y) (old x y)
+  pub rows-old : (x y : ℕ) → n ≤ x → x < 24 → y < 24 → Means letters (held l w h used) (cell joined x y) (old x y)
   rows-old x y le hx hy = means-same (s .rows .means x y hx hy) (λ p _. ap (λ (b : Bool). cond b (new x y p) (old x y p)) (le-ltb x n le))

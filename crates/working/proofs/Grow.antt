@@ -11,14 +11,16 @@ use Rattle.diagram.specs.Pattern.{mostLetters, patterns}
 use Rattle.diagram.specs.Table.{Table, terminalLetter, terminal, entryAt, numberAt}
 use Rattle.diagram.specs.Store.{add, store}
 use Rattle.diagram.specs.Operation.{chosen}
-use Rattle.diagram.specs.Call.{tableOf}
+use Rattle.diagram.specs.Held.{held}
 use Rattle.diagram.proofs.Sound.{Branch, Sound}
 use Rattle.diagram.proofs.Add.{Extends, extends-refl, extends-trans}
 use Rattle.diagram.proofs.Number.{part-low, part-high, number-terminal, numberAt-extends, number-zeroth, number-first}
 use Rattle.diagram.proofs.Store.{IsStored, store-stored, store-number}
 use Rattle.diagram.proofs.Shannon.{split, store-halves, number-past, number-split}
 use Rattle.table.specs.declared.Put.{Put}
-use Rattle.table.specs.Holds.{columns, Outcome}
+use Rattle.table.specs.declared.Stop.the-variants.{Going}
+use Rattle.table.specs.Stop.{stopped}
+use Rattle.table.specs.Holds.{Outcome}
 use Rattle.table.proofs.Outcomes.{holds-table, outcome-over}
 use Rattle.functions.specs.Open.{Legible, Open, Operand}
 use Rattle.functions.proofs.Carry.{legible-sound, legible-long, letter-at, low-at, high-at, open-next}
@@ -53,20 +55,20 @@ module _ {letters : ℕ} {l w h ix : List ℕ} {used : ℕ} (o : Open letters l 
   pub open-few : letters ≤ mostLetters
   open-few = o .legible .few
 
-  pub open-sound : Sound letters (tableOf (columns l w h) used)
+  pub open-sound : Sound letters (held l w h used)
   open-sound = legible-sound (o .legible)
 
-  pub open-long : length (tableOf (columns l w h) used) ≡ used
+  pub open-long : length (held l w h used) ≡ used
   open-long = legible-long (o .legible)
 
   pub open-three : 3 ≤ used
   open-three = omega (arith, open-sound .three, open-long)
 
   -- an exact outcome is growth
-  pub outcome-grown : {f : ℕ → ℕ} {l2 w2 h2 ix2 : List ℕ} {r : Put} → Outcome (tableOf (columns l w h) used) (store letters 0 f (tableOf (columns l w h) used)) l2 w2 h2 ix2 r
-      → Grown letters (tableOf (columns l w h) used) f l2 w2 h2 ix2 r
+  pub outcome-grown : {f : ℕ → ℕ} {l2 w2 h2 ix2 : List ℕ} {r : Put} → Outcome (held l w h used) (store letters 0 f (held l w h used)) l2 w2 h2 ix2 r
+      → Grown letters (held l w h used) f l2 w2 h2 ix2 r
   outcome-grown {f} {l2} {w2} {h2} {ix2} {r} q =
-      let t : Table = tableOf (columns l w h) used in
+      let t : Table = held l w h used in
       let s : IsStored letters letters 0 f t (store letters 0 f t) = store-stored letters 0 f t open-few open-sound (omega arith) in
       record {
         opened = λ e. open-next open-few (s .sound) (q .holds e);
@@ -76,78 +78,78 @@ module _ {letters : ℕ} {l w h ix : List ℕ} {used : ℕ} (o : Open letters l 
       }
 
 -- growth on growth
-pub grown-then : {letters : ℕ} {t : Table} {f g : ℕ → ℕ} {l1 w1 h1 ix1 l2 w2 h2 ix2 : List ℕ} {q r : Put} → Grown letters t f l1 w1 h1 ix1 q → q .full ≡ false
-    → Grown letters (tableOf (columns l1 w1 h1) (q .used)) g l2 w2 h2 ix2 r → Grown letters t g l2 w2 h2 ix2 r
+pub grown-then : {letters : ℕ} {t : Table} {f g : ℕ → ℕ} {l1 w1 h1 ix1 l2 w2 h2 ix2 : List ℕ} {q r : Put} → Grown letters t f l1 w1 h1 ix1 q → stopped (q .stop) ≡ false
+    → Grown letters (held l1 w1 h1 (q .used)) g l2 w2 h2 ix2 r → Grown letters t g l2 w2 h2 ix2 r
 grown-then a room b = record { opened = b .opened; extends = λ e. extends-trans (a .extends room) (b .extends e); means = b .means; crowded = λ e. crowded-from (a .extends room) (b .crowded e) }
 
 -- a full answer is one for every function
-pub grown-full : {letters : ℕ} {t : Table} {f g : ℕ → ℕ} {l w h ix : List ℕ} {r : Put} → Grown letters t g l w h ix r → r .full ≡ true → Grown letters t f l w h ix r
-grown-full {r = r} q e = record { opened = λ z. true-false (r .full) e z; extends = λ z. true-false (r .full) e z; means = λ z. true-false (r .full) e z; crowded = q .crowded }
+pub grown-full : {letters : ℕ} {t : Table} {f g : ℕ → ℕ} {l w h ix : List ℕ} {r : Put} → Grown letters t g l w h ix r → stopped (r .stop) ≡ true → Grown letters t f l w h ix r
+grown-full {r = r} q e = record { opened = λ z. true-false (stopped (r .stop)) e z; extends = λ z. true-false (stopped (r .stop)) e z; means = λ z. true-false (stopped (r .stop)) e z; crowded = q .crowded }
 
 -- an entry that is there already
-pub grown-there : {letters : ℕ} {l w h ix : List ℕ} {used e : ℕ} {f : ℕ → ℕ} → Open letters l w h ix used → Means letters (tableOf (columns l w h) used) e f
-    → Grown letters (tableOf (columns l w h) used) f l w h ix (record { full = false; entry = e; used = used })
+pub grown-there : {letters : ℕ} {l w h ix : List ℕ} {used e : ℕ} {f : ℕ → ℕ} → Open letters l w h ix used → Means letters (held l w h used) e f
+    → Grown letters (held l w h used) f l w h ix (record { stop = Going; entry = e; used = used })
 grown-there o m = record { opened = λ z. o; extends = λ z. extends-refl _; means = λ z. m; crowded = λ z. absurd (true≢false (sym z)) }
 
 -- Choices with the constants.
 module _ {letters : ℕ} {l w h ix : List ℕ} {used : ℕ} (o : Open letters l w h ix used) where
   abbrev n : ℕ → ℕ → ℕ
-  n e p = numberAt letters (tableOf (columns l w h) used) e p
+  n e p = numberAt letters (held l w h used) e p
 
   zero-number : (p : ℕ) → n 0 p ≡ 0
-  zero-number p = number-zeroth (tableOf (columns l w h) used) p (open-few o) (open-sound o)
+  zero-number p = number-zeroth (held l w h used) p (open-few o) (open-sound o)
 
   one-number : (p : ℕ) → n 1 p ≡ 1
-  one-number p = number-first (tableOf (columns l w h) used) p (open-few o) (open-sound o)
+  one-number p = number-first (held l w h used) p (open-few o) (open-sound o)
 
   module _ (a b : ℕ) {l2 w2 h2 ix2 : List ℕ} {r : Put} where
-    pub both-grown : Outcome (tableOf (columns l w h) used) (store letters 0 (chosen letters (tableOf (columns l w h) used) a b 0) (tableOf (columns l w h) used)) l2 w2 h2 ix2 r
-        → Grown letters (tableOf (columns l w h) used) (λ p. cond (eqb (numberAt letters (tableOf (columns l w h) used) a p) 1) (numberAt letters (tableOf (columns l w h) used) b p) 0) l2 w2 h2 ix2 r
+    pub both-grown : Outcome (held l w h used) (store letters 0 (chosen letters (held l w h used) a b 0) (held l w h used)) l2 w2 h2 ix2 r
+        → Grown letters (held l w h used) (λ p. cond (eqb (numberAt letters (held l w h used) a p) 1) (numberAt letters (held l w h used) b p) 0) l2 w2 h2 ix2 r
     both-grown q = grown-same (outcome-grown o q) (λ p _. ap (λ (z : ℕ). cond (eqb (n a p) 1) (n b p) z) (zero-number p))
 
-    pub either-grown : Outcome (tableOf (columns l w h) used) (store letters 0 (chosen letters (tableOf (columns l w h) used) a 1 b) (tableOf (columns l w h) used)) l2 w2 h2 ix2 r
-        → Grown letters (tableOf (columns l w h) used) (λ p. cond (eqb (numberAt letters (tableOf (columns l w h) used) a p) 1) 1 (numberAt letters (tableOf (columns l w h) used) b p)) l2 w2 h2 ix2 r
+    pub either-grown : Outcome (held l w h used) (store letters 0 (chosen letters (held l w h used) a 1 b) (held l w h used)) l2 w2 h2 ix2 r
+        → Grown letters (held l w h used) (λ p. cond (eqb (numberAt letters (held l w h used) a p) 1) 1 (numberAt letters (held l w h used) b p)) l2 w2 h2 ix2 r
     either-grown q = grown-same (outcome-grown o q) (λ p _. ap (λ (z : ℕ). cond (eqb (n a p) 1) z (n b p)) (one-number p))
 
-    pub without-grown : Outcome (tableOf (columns l w h) used) (store letters 0 (chosen letters (tableOf (columns l w h) used) b 0 a) (tableOf (columns l w h) used)) l2 w2 h2 ix2 r
-        → Grown letters (tableOf (columns l w h) used) (λ p. cond (eqb (numberAt letters (tableOf (columns l w h) used) b p) 1) 0 (numberAt letters (tableOf (columns l w h) used) a p)) l2 w2 h2 ix2 r
+    pub without-grown : Outcome (held l w h used) (store letters 0 (chosen letters (held l w h used) b 0 a) (held l w h used)) l2 w2 h2 ix2 r
+        → Grown letters (held l w h used) (λ p. cond (eqb (numberAt letters (held l w h used) b p) 1) 0 (numberAt letters (held l w h used) a p)) l2 w2 h2 ix2 r
     without-grown q = grown-same (outcome-grown o q) (λ p _. ap (λ (z : ℕ). cond (eqb (n b p) 1) z (n a p)) (zero-number p))
 
-  pub opposite-grown : (a : ℕ) {l2 w2 h2 ix2 : List ℕ} {r : Put} → Outcome (tableOf (columns l w h) used) (store letters 0 (chosen letters (tableOf (columns l w h) used) a 0 1) (tableOf (columns l w h) used)) l2 w2 h2 ix2 r
-      → Grown letters (tableOf (columns l w h) used) (λ p. cond (eqb (numberAt letters (tableOf (columns l w h) used) a p) 1) 0 1) l2 w2 h2 ix2 r
+  pub opposite-grown : (a : ℕ) {l2 w2 h2 ix2 : List ℕ} {r : Put} → Outcome (held l w h used) (store letters 0 (chosen letters (held l w h used) a 0 1) (held l w h used)) l2 w2 h2 ix2 r
+      → Grown letters (held l w h used) (λ p. cond (eqb (numberAt letters (held l w h used) a p) 1) 0 1) l2 w2 h2 ix2 r
   opposite-grown a q = grown-same (outcome-grown o q) (λ p _. ap (λ (z : ℕ). cond (eqb (n a p) 1) z (n 1 p)) (zero-number p) ∙ ap (λ (z : ℕ). cond (eqb (n a p) 1) 0 z) (one-number p))
 
   -- an entry keeps its numbers as the table grows
-  pub grown-number : {f : ℕ → ℕ} {l2 w2 h2 ix2 : List ℕ} {r : Put} → Grown letters (tableOf (columns l w h) used) f l2 w2 h2 ix2 r → r .full ≡ false → (e p : ℕ) → e < used
-      → numberAt letters (tableOf (columns l2 w2 h2) (r .used)) e p ≡ numberAt letters (tableOf (columns l w h) used) e p
+  pub grown-number : {f : ℕ → ℕ} {l2 w2 h2 ix2 : List ℕ} {r : Put} → Grown letters (held l w h used) f l2 w2 h2 ix2 r → stopped (r .stop) ≡ false → (e p : ℕ) → e < used
+      → numberAt letters (held l2 w2 h2 (r .used)) e p ≡ numberAt letters (held l w h used) e p
   grown-number g room e p lt = numberAt-extends e p (open-few o) (open-sound o) (g .extends room) (omega (arith, open-long o))
 
   -- and its place
-  pub grown-within : {f : ℕ → ℕ} {l2 w2 h2 ix2 : List ℕ} {r : Put} → Grown letters (tableOf (columns l w h) used) f l2 w2 h2 ix2 r → r .full ≡ false → {e : ℕ} → e < used → e < r .used
+  pub grown-within : {f : ℕ → ℕ} {l2 w2 h2 ix2 : List ℕ} {r : Put} → Grown letters (held l w h used) f l2 w2 h2 ix2 r → stopped (r .stop) ≡ false → {e : ℕ} → e < used → e < r .used
   grown-within g room lt = omega (arith, g .extends room .longer, open-long o, open-long (g .opened room))
 
   -- the new entry is one of the used
-  pub grown-entry : {f : ℕ → ℕ} {l2 w2 h2 ix2 : List ℕ} {r : Put} → Grown letters (tableOf (columns l w h) used) f l2 w2 h2 ix2 r → r .full ≡ false → r .entry < r .used
+  pub grown-entry : {f : ℕ → ℕ} {l2 w2 h2 ix2 : List ℕ} {r : Put} → Grown letters (held l w h used) f l2 w2 h2 ix2 r → stopped (r .stop) ≡ false → r .entry < r .used
   grown-entry g room = omega (arith, g .means room .within, open-long (g .opened room))
 
   -- what an entry meant it still means
-  pub grown-means : {f g : ℕ → ℕ} {l2 w2 h2 ix2 : List ℕ} {r : Put} {e : ℕ} → Grown letters (tableOf (columns l w h) used) f l2 w2 h2 ix2 r → r .full ≡ false → Means letters (tableOf (columns l w h) used) e g
-      → Means letters (tableOf (columns l2 w2 h2) (r .used)) e g
+  pub grown-means : {f g : ℕ → ℕ} {l2 w2 h2 ix2 : List ℕ} {r : Put} {e : ℕ} → Grown letters (held l w h used) f l2 w2 h2 ix2 r → stopped (r .stop) ≡ false → Means letters (held l w h used) e g
+      → Means letters (held l2 w2 h2 (r .used)) e g
   grown-means g room m = means-extends (open-few o) (open-sound o) (g .extends room) m
 
 -- a choice between the opposite and the function itself
 pub differ-grown : {letters : ℕ} {l w h ix l1 w1 h1 ix1 l2 w2 h2 ix2 : List ℕ} {used a b : ℕ} {q r : Put} (o : Open letters l w h ix used) → a < used → b < used
-    → (g : Grown letters (tableOf (columns l w h) used) (λ p. cond (eqb (numberAt letters (tableOf (columns l w h) used) b p) 1) 0 1) l1 w1 h1 ix1 q) → q .full ≡ false
-    → Outcome (tableOf (columns l1 w1 h1) (q .used)) (store letters 0 (chosen letters (tableOf (columns l1 w1 h1) (q .used)) a (q .entry) b) (tableOf (columns l1 w1 h1) (q .used))) l2 w2 h2 ix2 r
-    → Grown letters (tableOf (columns l w h) used) (λ p. cond (eqb (numberAt letters (tableOf (columns l w h) used) a p) 1) (cond (eqb (numberAt letters (tableOf (columns l w h) used) b p) 1) 0 1) (numberAt letters (tableOf (columns l w h) used) b p)) l2 w2 h2 ix2 r
+    → (g : Grown letters (held l w h used) (λ p. cond (eqb (numberAt letters (held l w h used) b p) 1) 0 1) l1 w1 h1 ix1 q) → stopped (q .stop) ≡ false
+    → Outcome (held l1 w1 h1 (q .used)) (store letters 0 (chosen letters (held l1 w1 h1 (q .used)) a (q .entry) b) (held l1 w1 h1 (q .used))) l2 w2 h2 ix2 r
+    → Grown letters (held l w h used) (λ p. cond (eqb (numberAt letters (held l w h used) a p) 1) (cond (eqb (numberAt letters (held l w h used) b p) 1) 0 1) (numberAt letters (held l w h used) b p)) l2 w2 h2 ix2 r
 differ-grown {a = a} {b} o ha hb g room z =
     grown-then g room
     (grown-same (outcome-grown (g .opened room) z) (λ p h. rw (grown-number o g room a p ha, g .means room .number p h, grown-number o g room b p hb)))
 
 -- Bringing an entry of one table into another.
-module _ {letters : ℕ} {tl tw th : List ℕ} {tused : ℕ} (lent : Legible letters tl tw th tused) {left e : ℕ} (x : Operand letters (tableOf (columns tl tw th) tused) tused left e) where
+module _ {letters : ℕ} {tl tw th : List ℕ} {tused : ℕ} (lent : Legible letters tl tw th tused) {left e : ℕ} (x : Operand letters (held tl tw th tused) tused left e) where
   abbrev t : Table
-  t = tableOf (columns tl tw th) tused
+  t = held tl tw th tused
 
   sound : Sound letters t
   sound = legible-sound lent
@@ -156,13 +158,13 @@ module _ {letters : ℕ} {tl tw th : List ℕ} {tused : ℕ} (lent : Legible let
   inside = omega (arith, x .within, legible-long lent)
 
   -- a terminal
-  bring-terminal : (u : Table) → getD tl e 0 ≡ terminalLetter → store letters 0 (numberAt letters (tableOf (columns tl tw th) tused) e) u ≡ add (terminal (getD tw e 0)) u
+  bring-terminal : (u : Table) → getD tl e 0 ≡ terminalLetter → store letters 0 (numberAt letters (held tl tw th tused) e) u ≡ add (terminal (getD tw e 0)) u
   bring-terminal u q =
       store-number letters 0 (getD tw e 0) (numberAt letters t e) u
       (λ p h. number-terminal letters 0 t e p (omega (arith, lent .few)) (letter-at lent e (x .within) ∙ q) ∙ low-at lent e (x .within))
 
   pub bring-leaf : {u : Table} {l w h ix : List ℕ} {r : Put} → getD tl e 0 ≡ terminalLetter → Outcome u (add (terminal (getD tw e 0)) u) l w h ix r
-      → Outcome u (store letters 0 (numberAt letters (tableOf (columns tl tw th) tused) e) u) l w h ix r
+      → Outcome u (store letters 0 (numberAt letters (held tl tw th tused) e) u) l w h ix r
   bring-leaf {u} q o = rw (bring-terminal u q) o
 
   module _ (node : getD tl e 0 ≡ terminalLetter → ⊥) where
@@ -172,14 +174,14 @@ module _ {letters : ℕ} {tl tw th : List ℕ} {tused : ℕ} (lent : Legible let
     pub bring-room : 1 ≤ left
     bring-room = omega (arith, x .from, branch-e .letter-in)
 
-    pub bring-low : Operand letters (tableOf (columns tl tw th) tused) tused (left - 1) (getD tw e 0)
+    pub bring-low : Operand letters (held tl tw th tused) tused (left - 1) (getD tw e 0)
     bring-low = rw (← low-at lent e (x .within)) record { within = omega (arith, branch-e .low-earlier, x .within); from = omega (arith, branch-e .low-later, x .from, bring-room) }
 
-    pub bring-high : Operand letters (tableOf (columns tl tw th) tused) tused (left - 1) (getD th e 0)
+    pub bring-high : Operand letters (held tl tw th tused) tused (left - 1) (getD th e 0)
     bring-high = rw (← high-at lent e (x .within)) record { within = omega (arith, branch-e .high-earlier, x .within); from = omega (arith, branch-e .high-later, x .from, bring-room) }
 
     -- a branch: its two parts
-    pub bring-halves : (u : Table) → Sound letters u → Halves letters u (getD tl e 0) (numberAt letters (tableOf (columns tl tw th) tused) e) (numberAt letters (tableOf (columns tl tw th) tused) (getD tw e 0)) (λ v. numberAt letters (tableOf (columns tl tw th) tused) (getD th e 0))
+    pub bring-halves : (u : Table) → Sound letters u → Halves letters u (getD tl e 0) (numberAt letters (held tl tw th tused) e) (numberAt letters (held tl tw th tused) (getD tw e 0)) (λ v. numberAt letters (held tl tw th tused) (getD th e 0))
     bring-halves u su = record {
       halved =
           let m : ℕ = entryAt t e .letter in

@@ -6,10 +6,10 @@ use Prim.Native.Nat.{ℕ, _<_}
 use lib.ListN.{length}
 use Rattle.diagram.specs.Pattern.{patterns}
 use Rattle.diagram.specs.Table.{Table, numberAt}
-use Rattle.diagram.specs.Call.{tableOf}
+use Rattle.diagram.specs.Held.{held}
 use Rattle.diagram.proofs.Add.{Extends}
 use Rattle.table.specs.declared.Put.{Put}
-use Rattle.table.specs.Holds.{columns}
+use Rattle.table.specs.Stop.{stopped}
 use Rattle.functions.specs.Open.{Open}
 
 -- entry e has the numbers of a function
@@ -27,11 +27,11 @@ Is letters t e test = Means letters t e (λ p. bit (test p))
 -- no room: the columns hold a sound extension of the table t that takes all their rows
 pub record Crowded (letters : ℕ) (t : Table) (l w h ix : List ℕ) : Type 0 where
   pub opened : Open letters l w h ix (length l)
-  pub extends : Extends t (tableOf (columns l w h) (length l))
+  pub extends : Extends t (held l w h (length l))
 
 -- the columns hold a sound extension of the table t, in which the entry has the numbers of a function; or the answer is full
 pub record Grown (letters : ℕ) (t : Table) (f : ℕ → ℕ) (l w h ix : List ℕ) (r : Put) : Type 0 where
-  pub opened : r .full ≡ false → Open letters l w h ix (r .used)
-  pub extends : r .full ≡ false → Extends t (tableOf (columns l w h) (r .used))
-  pub means : r .full ≡ false → Means letters (tableOf (columns l w h) (r .used)) (r .entry) f
-  pub crowded : r .full ≡ true → Crowded letters t l w h ix
+  pub opened : stopped (r .stop) ≡ false → Open letters l w h ix (r .used)
+  pub extends : stopped (r .stop) ≡ false → Extends t (held l w h (r .used))
+  pub means : stopped (r .stop) ≡ false → Means letters (held l w h (r .used)) (r .entry) f
+  pub crowded : stopped (r .stop) ≡ true → Crowded letters t l w h ix

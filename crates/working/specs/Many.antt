@@ -5,15 +5,10 @@ use Prim.Native.Nat.{ℕ, _<_}
 use lib.ListN.{getD}
 use lib.Dec.{eqb}
 use Rattle.diagram.specs.Table.{Table}
-use Rattle.diagram.specs.Call.{tableOf}
+use Rattle.diagram.specs.Held.{held}
 use Rattle.diagram.proofs.Add.{Extends}
-use Rattle.table.specs.Holds.{columns}
 use Rattle.functions.specs.Open.{Open}
 use Rattle.working.specs.Grown.{Means}
-
--- the table in the columns
-abbrev pub held : List ℕ → List ℕ → List ℕ → ℕ → Table
-held l w h used = tableOf (columns l w h) used
 
 -- the first entries of a list are all used ones
 abbrev pub AllUsed : ℕ → List ℕ → ℕ → Type 0
@@ -22,8 +17,8 @@ AllUsed size entries used = (m : ℕ) → m < size → getD entries m 0 < used
 -- the columns hold a sound extension of a table, in which the first entries of a list have the numbers of functions
 pub record Filled (size letters : ℕ) (t : Table) (f : ℕ → ℕ → ℕ) (l w h ix : List ℕ) (used : ℕ) (entries : List ℕ) : Type 0 where
   pub opened : Open letters l w h ix used
-  pub extends : Extends t (tableOf (columns l w h) used)
-  pub means : (m : ℕ) → m < size → Means letters (tableOf (columns l w h) used) (getD entries m 0) (f m)
+  pub extends : Extends t (held l w h used)
+  pub means : (m : ℕ) → m < size → Means letters (held l w h used) (getD entries m 0) (f m)
 
 -- the entry of two nodes in a matrix
 abbrev pub cell : List (List ℕ) → ℕ → ℕ → ℕ
@@ -32,8 +27,8 @@ cell joined x y = getD (getD joined x []) y 0
 -- the same as `Filled` for the cells of a matrix
 pub record Matrixed (letters : ℕ) (t : Table) (f : ℕ → ℕ → ℕ → ℕ) (l w h ix : List ℕ) (used : ℕ) (joined : List (List ℕ)) : Type 0 where
   pub opened : Open letters l w h ix used
-  pub extends : Extends t (tableOf (columns l w h) used)
-  pub means : (x y : ℕ) → x < 24 → y < 24 → Means letters (tableOf (columns l w h) used) (cell joined x y) (f x y)
+  pub extends : Extends t (held l w h used)
+  pub means : (x y : ℕ) → x < 24 → y < 24 → Means letters (held l w h used) (cell joined x y) (f x y)
 
 -- a number; 1 where two others are 1
 abbrev pub also : ℕ → ℕ → ℕ → ℕ

@@ -6,8 +6,8 @@ ghost use Prim.Native.Nat.{_<_, _≤_};
 ghost use lib.Dec.{eqb};
 ghost use Rattle.diagram.specs.Table.{numberAt};
 ghost use Rattle.diagram.specs.Store.{store};
-ghost use Rattle.diagram.specs.Call.{tableOf};
-ghost use Rattle.table.specs.Holds.{columns, Sized, Outcome, Empty};
+ghost use Rattle.diagram.specs.Held.{held};
+ghost use Rattle.table.specs.Holds.{Sized, Outcome, Empty};
 ghost use Rattle.functions.specs.Open.{Legible, Open, Operand};
 ghost use Rattle.working.specs.Grown.{Grown};
 
@@ -18,6 +18,7 @@ use functions::choose::choose;
 use functions::numbers::TERMINAL;
 use functions::step::join;
 use table::Put;
+use table::stopped;
 
 // The function of entry `e` of the lent table, whose letters are among the last `left` of the k.
 fn bring_part(
@@ -34,9 +35,9 @@ fn bring_part(
     e: u32,
     left: u32,
 ) -> Put
-    requires { ⌜ Legible k (now tletter) (now tlow) (now thigh) tused × Operand k (tableOf (columns (now tletter) (now tlow) (now thigh)) tused) tused left e ⌝ }
+    requires { ⌜ Legible k (now tletter) (now tlow) (now thigh) tused × Operand k (held (now tletter) (now tlow) (now thigh) tused) tused left e ⌝ }
     requires { ⌜ Open k (now letter) (now low) (now high) (now index) used ⌝ }
-    ensures { λ r. ⌜ Outcome (tableOf (columns (now (letter .entry)) (now (low .entry)) (now (high .entry))) used) (store k 0 (numberAt k (tableOf (columns (now (tletter .entry)) (now (tlow .entry)) (now (thigh .entry))) tused) e) (tableOf (columns (now (letter .entry)) (now (low .entry)) (now (high .entry))) used)) (now (letter .exit)) (now (low .exit)) (now (high .exit)) (now (index .exit)) r ⌝ }
+    ensures { λ r. ⌜ Outcome (held (now (letter .entry)) (now (low .entry)) (now (high .entry)) used) (store k 0 (numberAt k (held (now (tletter .entry)) (now (tlow .entry)) (now (thigh .entry)) tused) e) (held (now (letter .entry)) (now (low .entry)) (now (high .entry)) used)) (now (letter .exit)) (now (low .exit)) (now (high .exit)) (now (index .exit)) r ⌝ }
 {
     let i = e as usize;
     let m = tletter[i];
@@ -59,7 +60,8 @@ fn bring_part(
         a,
         left - 1,
     );
-    if p.full {
+    let why = p.stop;
+    if stopped(why) {
         return p;
     }
     let q = bring_part(
@@ -76,7 +78,8 @@ fn bring_part(
         b,
         left - 1,
     );
-    if q.full {
+    let why = q.stop;
+    if stopped(why) {
         return q;
     }
     join(letter, low, high, index, q.used, m, p.entry, q.entry)
@@ -98,7 +101,7 @@ pub fn bring(
 ) -> Put
     requires { ⌜ Legible k (now tletter) (now tlow) (now thigh) tused × (e < tused) ⌝ }
     requires { ⌜ Open k (now letter) (now low) (now high) (now index) used ⌝ }
-    ensures { λ r. ⌜ Grown k (tableOf (columns (now (letter .entry)) (now (low .entry)) (now (high .entry))) used) (numberAt k (tableOf (columns (now (tletter .entry)) (now (tlow .entry)) (now (thigh .entry))) tused) e) (now (letter .exit)) (now (low .exit)) (now (high .exit)) (now (index .exit)) r ⌝ }
+    ensures { λ r. ⌜ Grown k (held (now (letter .entry)) (now (low .entry)) (now (high .entry)) used) (numberAt k (held (now (tletter .entry)) (now (tlow .entry)) (now (thigh .entry)) tused) e) (now (letter .exit)) (now (low .exit)) (now (high .exit)) (now (index .exit)) r ⌝ }
 {
     bring_part(
         tletter,
@@ -128,7 +131,7 @@ pub fn both(
     b: u32,
 ) -> Put
     requires { ⌜ Open k (now letter) (now low) (now high) (now index) used × (a < used) × (b < used) ⌝ }
-    ensures { λ r. ⌜ Grown k (tableOf (columns (now (letter .entry)) (now (low .entry)) (now (high .entry))) used) (λ p. cond (eqb (numberAt k (tableOf (columns (now (letter .entry)) (now (low .entry)) (now (high .entry))) used) a p) 1) (numberAt k (tableOf (columns (now (letter .entry)) (now (low .entry)) (now (high .entry))) used) b p) 0) (now (letter .exit)) (now (low .exit)) (now (high .exit)) (now (index .exit)) r ⌝ }
+    ensures { λ r. ⌜ Grown k (held (now (letter .entry)) (now (low .entry)) (now (high .entry)) used) (λ p. cond (eqb (numberAt k (held (now (letter .entry)) (now (low .entry)) (now (high .entry)) used) a p) 1) (numberAt k (held (now (letter .entry)) (now (low .entry)) (now (high .entry)) used) b p) 0) (now (letter .exit)) (now (low .exit)) (now (high .exit)) (now (index .exit)) r ⌝ }
 {
     choose(letter, low, high, index, used, k, a, b, 0, k)
 }
@@ -145,7 +148,7 @@ pub fn either(
     b: u32,
 ) -> Put
     requires { ⌜ Open k (now letter) (now low) (now high) (now index) used × (a < used) × (b < used) ⌝ }
-    ensures { λ r. ⌜ Grown k (tableOf (columns (now (letter .entry)) (now (low .entry)) (now (high .entry))) used) (λ p. cond (eqb (numberAt k (tableOf (columns (now (letter .entry)) (now (low .entry)) (now (high .entry))) used) a p) 1) 1 (numberAt k (tableOf (columns (now (letter .entry)) (now (low .entry)) (now (high .entry))) used) b p)) (now (letter .exit)) (now (low .exit)) (now (high .exit)) (now (index .exit)) r ⌝ }
+    ensures { λ r. ⌜ Grown k (held (now (letter .entry)) (now (low .entry)) (now (high .entry)) used) (λ p. cond (eqb (numberAt k (held (now (letter .entry)) (now (low .entry)) (now (high .entry)) used) a p) 1) 1 (numberAt k (held (now (letter .entry)) (now (low .entry)) (now (high .entry)) used) b p)) (now (letter .exit)) (now (low .exit)) (now (high .exit)) (now (index .exit)) r ⌝ }
 {
     choose(letter, low, high, index, used, k, a, 1, b, k)
 }
@@ -162,7 +165,7 @@ pub fn without(
     b: u32,
 ) -> Put
     requires { ⌜ Open k (now letter) (now low) (now high) (now index) used × (a < used) × (b < used) ⌝ }
-    ensures { λ r. ⌜ Grown k (tableOf (columns (now (letter .entry)) (now (low .entry)) (now (high .entry))) used) (λ p. cond (eqb (numberAt k (tableOf (columns (now (letter .entry)) (now (low .entry)) (now (high .entry))) used) b p) 1) 0 (numberAt k (tableOf (columns (now (letter .entry)) (now (low .entry)) (now (high .entry))) used) a p)) (now (letter .exit)) (now (low .exit)) (now (high .exit)) (now (index .exit)) r ⌝ }
+    ensures { λ r. ⌜ Grown k (held (now (letter .entry)) (now (low .entry)) (now (high .entry)) used) (λ p. cond (eqb (numberAt k (held (now (letter .entry)) (now (low .entry)) (now (high .entry)) used) b p) 1) 0 (numberAt k (held (now (letter .entry)) (now (low .entry)) (now (high .entry)) used) a p)) (now (letter .exit)) (now (low .exit)) (now (high .exit)) (now (index .exit)) r ⌝ }
 {
     choose(letter, low, high, index, used, k, b, 0, a, k)
 }
@@ -178,7 +181,7 @@ pub fn opposite(
     a: u32,
 ) -> Put
     requires { ⌜ Open k (now letter) (now low) (now high) (now index) used × (a < used) ⌝ }
-    ensures { λ r. ⌜ Grown k (tableOf (columns (now (letter .entry)) (now (low .entry)) (now (high .entry))) used) (λ p. cond (eqb (numberAt k (tableOf (columns (now (letter .entry)) (now (low .entry)) (now (high .entry))) used) a p) 1) 0 1) (now (letter .exit)) (now (low .exit)) (now (high .exit)) (now (index .exit)) r ⌝ }
+    ensures { λ r. ⌜ Grown k (held (now (letter .entry)) (now (low .entry)) (now (high .entry)) used) (λ p. cond (eqb (numberAt k (held (now (letter .entry)) (now (low .entry)) (now (high .entry)) used) a p) 1) 0 1) (now (letter .exit)) (now (low .exit)) (now (high .exit)) (now (index .exit)) r ⌝ }
 {
     choose(letter, low, high, index, used, k, a, 0, 1, k)
 }
@@ -195,10 +198,11 @@ pub fn differ(
     b: u32,
 ) -> Put
     requires { ⌜ Open k (now letter) (now low) (now high) (now index) used × (a < used) × (b < used) ⌝ }
-    ensures { λ r. ⌜ Grown k (tableOf (columns (now (letter .entry)) (now (low .entry)) (now (high .entry))) used) (λ p. cond (eqb (numberAt k (tableOf (columns (now (letter .entry)) (now (low .entry)) (now (high .entry))) used) a p) 1) (cond (eqb (numberAt k (tableOf (columns (now (letter .entry)) (now (low .entry)) (now (high .entry))) used) b p) 1) 0 1) (numberAt k (tableOf (columns (now (letter .entry)) (now (low .entry)) (now (high .entry))) used) b p)) (now (letter .exit)) (now (low .exit)) (now (high .exit)) (now (index .exit)) r ⌝ }
+    ensures { λ r. ⌜ Grown k (held (now (letter .entry)) (now (low .entry)) (now (high .entry)) used) (λ p. cond (eqb (numberAt k (held (now (letter .entry)) (now (low .entry)) (now (high .entry)) used) a p) 1) (cond (eqb (numberAt k (held (now (letter .entry)) (now (low .entry)) (now (high .entry)) used) b p) 1) 0 1) (numberAt k (held (now (letter .entry)) (now (low .entry)) (now (high .entry)) used) b p)) (now (letter .exit)) (now (low .exit)) (now (high .exit)) (now (index .exit)) r ⌝ }
 {
     let q = opposite(letter, low, high, index, used, k, b);
-    if q.full {
+    let why = q.stop;
+    if stopped(why) {
         return q;
     }
     choose(letter, low, high, index, q.used, k, a, q.entry, b, k)
@@ -220,7 +224,7 @@ pub fn begin(letter: &mut [u32], low: &mut [u32], high: &mut [u32], index: &mut 
     requires { ⌜ Sized (now letter) (now low) (now high) (now index) × (k ≤ 12) ⌝ }
     ensures { λ _. ⌜ Open k (now (letter .exit)) (now (low .exit)) (now (high .exit)) (now (index .exit)) 3 ⌝ }
 {
-    table::fresh(letter, low, high);
+    table::renew(letter, low, high);
     blank(index);
     table::sound(k, letter, low, high, 3, index);
 }

@@ -4,16 +4,20 @@ ghost use mathlib.Core.Bool.{true, false};
 ghost use Prim.Native.Nat.{ℕ, _<_};
 ghost use lib.ListN.{getD};
 ghost use Rattle.diagram.specs.Table.{numberAt};
+ghost use Rattle.diagram.specs.Held.{held};
+ghost use Rattle.table.specs.Stop.{stopped};
 ghost use Rattle.functions.specs.Open.{Open};
 ghost use Rattle.working.specs.Grown.{Crowded, Grown};
-ghost use Rattle.working.specs.Many.{held, AllUsed, Filled, cell, Matrixed, also, linkedNumber};
+ghost use Rattle.working.specs.Many.{AllUsed, Filled, cell, Matrixed, also, linkedNumber};
 use crate::both;
 use crate::either;
 use table::Put;
+use table::Stop;
+use table::stopped;
 
 // A row of the matrix, unless there was no room.
 pub struct Row {
-    pub full: bool,
+    pub stop: Stop,
     pub used: u32,
     pub row: [u32; 24],
 }
@@ -35,20 +39,21 @@ fn also_both(
 {
     if a == 0 {
         return Put {
-            full: false,
+            stop: Stop::Going,
             entry: z,
             used,
         };
     }
     if b == 0 {
         return Put {
-            full: false,
+            stop: Stop::Going,
             entry: z,
             used,
         };
     }
     let m = both(letter, low, high, index, used, k, a, b);
-    if m.full {
+    let why = m.stop;
+    if stopped(why) {
         return m;
     }
     either(letter, low, high, index, m.used, k, m.entry, z)
@@ -72,7 +77,8 @@ fn link_cell(
     ensures { λ r. ⌜ Grown k (held (now (letter .entry)) (now (low .entry)) (now (high .entry)) used) (λ p. also (also (numberAt k (held (now (letter .entry)) (now (low .entry)) (now (high .entry)) used) xy p) (numberAt k (held (now (letter .entry)) (now (low .entry)) (now (high .entry)) used) xb p) (numberAt k (held (now (letter .entry)) (now (low .entry)) (now (high .entry)) used) ay p)) (numberAt k (held (now (letter .entry)) (now (low .entry)) (now (high .entry)) used) xa p) (numberAt k (held (now (letter .entry)) (now (low .entry)) (now (high .entry)) used) by p)) (now (letter .exit)) (now (low .exit)) (now (high .exit)) (now (index .exit)) r ⌝ }
 {
     let m = also_both(letter, low, high, index, used, k, xy, xb, ay);
-    if m.full {
+    let why = m.stop;
+    if stopped(why) {
         return m;
     }
     also_both(letter, low, high, index, m.used, k, m.entry, xa, by)
@@ -93,16 +99,17 @@ fn link_cells(
     b: [u32; 24],
 ) -> Row
     requires { ⌜ Open k (now letter) (now low) (now high) (now index) used × (xa < used) × (xb < used) × AllUsed 24 row used × AllUsed 24 a used × AllUsed 24 b used ⌝ }
-    ensures { λ r. ⌜ (r .full ≡ false → Filled 24 k (held (now (letter .entry)) (now (low .entry)) (now (high .entry)) used) (λ y p. also (also (numberAt k (held (now (letter .entry)) (now (low .entry)) (now (high .entry)) used) (getD row y 0) p) (numberAt k (held (now (letter .entry)) (now (low .entry)) (now (high .entry)) used) xb p) (numberAt k (held (now (letter .entry)) (now (low .entry)) (now (high .entry)) used) (getD a y 0) p)) (numberAt k (held (now (letter .entry)) (now (low .entry)) (now (high .entry)) used) xa p) (numberAt k (held (now (letter .entry)) (now (low .entry)) (now (high .entry)) used) (getD b y 0) p)) (now (letter .exit)) (now (low .exit)) (now (high .exit)) (now (index .exit)) (r .used) (r .row)) × (r .full ≡ true → Crowded k (held (now (letter .entry)) (now (low .entry)) (now (high .entry)) used) (now (letter .exit)) (now (low .exit)) (now (high .exit)) (now (index .exit))) ⌝ }
+    ensures { λ r. ⌜ (stopped (r .stop) ≡ false → Filled 24 k (held (now (letter .entry)) (now (low .entry)) (now (high .entry)) used) (λ y p. also (also (numberAt k (held (now (letter .entry)) (now (low .entry)) (now (high .entry)) used) (getD row y 0) p) (numberAt k (held (now (letter .entry)) (now (low .entry)) (now (high .entry)) used) xb p) (numberAt k (held (now (letter .entry)) (now (low .entry)) (now (high .entry)) used) (getD a y 0) p)) (numberAt k (held (now (letter .entry)) (now (low .entry)) (now (high .entry)) used) xa p) (numberAt k (held (now (letter .entry)) (now (low .entry)) (now (high .entry)) used) (getD b y 0) p)) (now (letter .exit)) (now (low .exit)) (now (high .exit)) (now (index .exit)) (r .used) (r .row)) × (stopped (r .stop) ≡ true → Crowded k (held (now (letter .entry)) (now (low .entry)) (now (high .entry)) used) (now (letter .exit)) (now (low .exit)) (now (high .exit)) (now (index .exit))) ⌝ }
 {
     let mut out = row;
     let mut now = used;
     let mut y = 0;
     while y < 24 {
         let p = link_cell(letter, low, high, index, now, k, row[y], xa, b[y], xb, a[y]);
-        if p.full {
+        let why = p.stop;
+        if stopped(why) {
             return Row {
-                full: true,
+                stop: why,
                 used: now,
                 row: out,
             };
@@ -112,7 +119,7 @@ fn link_cells(
         y += 1;
     }
     Row {
-        full: false,
+        stop: Stop::Going,
         used: now,
         row: out,
     }
@@ -134,20 +141,22 @@ fn link_row(
     second: [u32; 24],
 ) -> Row
     requires { ⌜ Open k (now letter) (now low) (now high) (now index) used × (kept < used) × (a < 24) × (b < 24) × AllUsed 24 row used × AllUsed 24 first used × AllUsed 24 second used ⌝ }
-    ensures { λ r. ⌜ (r .full ≡ false → Filled 24 k (held (now (letter .entry)) (now (low .entry)) (now (high .entry)) used) (λ y p. linkedNumber (numberAt k (held (now (letter .entry)) (now (low .entry)) (now (high .entry)) used) kept p) (numberAt k (held (now (letter .entry)) (now (low .entry)) (now (high .entry)) used) (getD row y 0) p) (numberAt k (held (now (letter .entry)) (now (low .entry)) (now (high .entry)) used) (getD row a 0) p) (numberAt k (held (now (letter .entry)) (now (low .entry)) (now (high .entry)) used) (getD second y 0) p) (numberAt k (held (now (letter .entry)) (now (low .entry)) (now (high .entry)) used) (getD row b 0) p) (numberAt k (held (now (letter .entry)) (now (low .entry)) (now (high .entry)) used) (getD first y 0) p)) (now (letter .exit)) (now (low .exit)) (now (high .exit)) (now (index .exit)) (r .used) (r .row)) × (r .full ≡ true → Crowded k (held (now (letter .entry)) (now (low .entry)) (now (high .entry)) used) (now (letter .exit)) (now (low .exit)) (now (high .exit)) (now (index .exit))) ⌝ }
+    ensures { λ r. ⌜ (stopped (r .stop) ≡ false → Filled 24 k (held (now (letter .entry)) (now (low .entry)) (now (high .entry)) used) (λ y p. linkedNumber (numberAt k (held (now (letter .entry)) (now (low .entry)) (now (high .entry)) used) kept p) (numberAt k (held (now (letter .entry)) (now (low .entry)) (now (high .entry)) used) (getD row y 0) p) (numberAt k (held (now (letter .entry)) (now (low .entry)) (now (high .entry)) used) (getD row a 0) p) (numberAt k (held (now (letter .entry)) (now (low .entry)) (now (high .entry)) used) (getD second y 0) p) (numberAt k (held (now (letter .entry)) (now (low .entry)) (now (high .entry)) used) (getD row b 0) p) (numberAt k (held (now (letter .entry)) (now (low .entry)) (now (high .entry)) used) (getD first y 0) p)) (now (letter .exit)) (now (low .exit)) (now (high .exit)) (now (index .exit)) (r .used) (r .row)) × (stopped (r .stop) ≡ true → Crowded k (held (now (letter .entry)) (now (low .entry)) (now (high .entry)) used) (now (letter .exit)) (now (low .exit)) (now (high .exit)) (now (index .exit))) ⌝ }
 {
     let p = both(letter, low, high, index, used, k, kept, row[a]);
-    if p.full {
+    let why = p.stop;
+    if stopped(why) {
         return Row {
-            full: true,
+            stop: why,
             used,
             row,
         };
     }
     let q = both(letter, low, high, index, p.used, k, kept, row[b]);
-    if q.full {
+    let why = q.stop;
+    if stopped(why) {
         return Row {
-            full: true,
+            stop: why,
             used,
             row,
         };
@@ -202,7 +211,8 @@ pub fn link(
             first,
             second,
         );
-        if r.full {
+        let why = r.stop;
+        if stopped(why) {
             *used = 0;
             return out;
         }

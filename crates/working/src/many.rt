@@ -6,16 +6,20 @@ ghost use lib.ListN.{getD};
 ghost use lib.Dec.{eqb, ltb};
 ghost use Rattle.diagram.specs.Pattern.{patterns};
 ghost use Rattle.diagram.specs.Table.{numberAt};
+ghost use Rattle.diagram.specs.Held.{held};
+ghost use Rattle.table.specs.Stop.{stopped};
 ghost use Rattle.functions.specs.Open.{Legible, Open};
 ghost use Rattle.working.specs.Grown.{Means, bit, Crowded, Grown};
-ghost use Rattle.working.specs.Many.{held, AllUsed, Filled};
+ghost use Rattle.working.specs.Many.{AllUsed, Filled};
 use crate::bring;
 use crate::differ;
 use table::Put;
+use table::Stop;
+use table::stopped;
 
 // Entries by node number, unless there was no room.
 pub struct Many {
-    pub full: bool,
+    pub stop: Stop,
     pub used: u32,
     pub entries: [u32; 26],
 }
@@ -37,7 +41,7 @@ pub fn bring_all(
 ) -> Many
     requires { ⌜ Legible k (now tletter) (now tlow) (now thigh) tused × AllUsed count entries tused × (count ≤ 26) ⌝ }
     requires { ⌜ Open k (now letter) (now low) (now high) (now index) used ⌝ }
-    ensures { λ r. ⌜ (r .full ≡ false → Filled 26 k (held (now (letter .entry)) (now (low .entry)) (now (high .entry)) used) (λ m p. cond (ltb m count) (numberAt k (held (now (tletter .entry)) (now (tlow .entry)) (now (thigh .entry)) tused) (getD entries m 0) p) 0) (now (letter .exit)) (now (low .exit)) (now (high .exit)) (now (index .exit)) (r .used) (r .entries)) × (r .full ≡ true → Crowded k (held (now (letter .entry)) (now (low .entry)) (now (high .entry)) used) (now (letter .exit)) (now (low .exit)) (now (high .exit)) (now (index .exit))) ⌝ }
+    ensures { λ r. ⌜ (stopped (r .stop) ≡ false → Filled 26 k (held (now (letter .entry)) (now (low .entry)) (now (high .entry)) used) (λ m p. cond (ltb m count) (numberAt k (held (now (tletter .entry)) (now (tlow .entry)) (now (thigh .entry)) tused) (getD entries m 0) p) 0) (now (letter .exit)) (now (low .exit)) (now (high .exit)) (now (index .exit)) (r .used) (r .entries)) × (stopped (r .stop) ≡ true → Crowded k (held (now (letter .entry)) (now (low .entry)) (now (high .entry)) used) (now (letter .exit)) (now (low .exit)) (now (high .exit)) (now (index .exit))) ⌝ }
 {
     let mut out = [0u32; 26];
     let mut now = used;
@@ -56,9 +60,10 @@ pub fn bring_all(
             k,
             entries[n],
         );
-        if p.full {
+        let why = p.stop;
+        if stopped(why) {
             return Many {
-                full: true,
+                stop: why,
                 used: now,
                 entries: out,
             };
@@ -68,7 +73,7 @@ pub fn bring_all(
         n += 1;
     }
     Many {
-        full: false,
+        stop: Stop::Going,
         used: now,
         entries: out,
     }
@@ -96,7 +101,7 @@ fn changed(
 {
     if b == a {
         return Put {
-            full: false,
+            stop: Stop::Going,
             entry: 0,
             used,
         };
@@ -114,7 +119,8 @@ fn changed(
         k,
         b,
     );
-    if p.full {
+    let why = p.stop;
+    if stopped(why) {
         return p;
     }
     differ(letter, low, high, index, p.used, k, v, p.entry)
@@ -139,7 +145,7 @@ pub fn changed_all(
 ) -> Many
     requires { ⌜ Legible k (now tletter) (now tlow) (now thigh) tused × AllUsed count before tused × (count ≤ 26) × ((n p : ℕ) → n < count → p < patterns k → numberAt k (held (now tletter) (now tlow) (now thigh) tused) (getD before n 0) p ≤ 1) × ((n p : ℕ) → n < count → p < patterns k → numberAt k (held (now tletter) (now tlow) (now thigh) tused) (getD after n 0) p ≤ 1) ⌝ }
     requires { ⌜ Open k (now letter) (now low) (now high) (now index) used × ((n : ℕ) → n < count → Means k (held (now letter) (now low) (now high) used) (getD values n 0) (numberAt k (held (now tletter) (now tlow) (now thigh) tused) (getD after n 0))) ⌝ }
-    ensures { λ r. ⌜ (r .full ≡ false → Filled 26 k (held (now (letter .entry)) (now (low .entry)) (now (high .entry)) used) (λ m p. cond (ltb m count) (bit (not (eqb (numberAt k (held (now (tletter .entry)) (now (tlow .entry)) (now (thigh .entry)) tused) (getD before m 0) p) (numberAt k (held (now (tletter .entry)) (now (tlow .entry)) (now (thigh .entry)) tused) (getD after m 0) p)))) 0) (now (letter .exit)) (now (low .exit)) (now (high .exit)) (now (index .exit)) (r .used) (r .entries)) × (r .full ≡ true → Crowded k (held (now (letter .entry)) (now (low .entry)) (now (high .entry)) used) (now (letter .exit)) (now (low .exit)) (now (high .exit)) (now (index .exit))) ⌝ }
+    ensures { λ r. ⌜ (stopped (r .stop) ≡ false → Filled 26 k (held (now (letter .entry)) (now (low .entry)) (now (high .entry)) used) (λ m p. cond (ltb m count) (bit (not (eqb (numberAt k (held (now (tletter .entry)) (now (tlow .entry)) (now (thigh .entry)) tused) (getD before m 0) p) (numberAt k (held (now (tletter .entry)) (now (tlow .entry)) (now (thigh .entry)) tused) (getD after m 0) p)))) 0) (now (letter .exit)) (now (low .exit)) (now (high .exit)) (now (index .exit)) (r .used) (r .entries)) × (stopped (r .stop) ≡ true → Crowded k (held (now (letter .entry)) (now (low .entry)) (now (high .entry)) used) (now (letter .exit)) (now (low .exit)) (now (high .exit)) (now (index .exit))) ⌝ }
 {
     let mut out = [0u32; 26];
     let mut now = used;
@@ -160,9 +166,10 @@ pub fn changed_all(
             after[n],
             values[n],
         );
-        if p.full {
+        let why = p.stop;
+        if stopped(why) {
             return Many {
-                full: true,
+                stop: why,
                 used: now,
                 entries: out,
             };
@@ -172,7 +179,7 @@ pub fn changed_all(
         n += 1;
     }
     Many {
-        full: false,
+        stop: Stop::Going,
         used: now,
         entries: out,
     }

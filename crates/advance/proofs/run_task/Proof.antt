@@ -3,7 +3,7 @@ use mathlib.Core.Path.{refl, _∙_}
 use borrow.Author.Tests.{not-true, not-false}
 use borrow.Author.Needs.{needs}
 use Rattle.refusal.specs.declared.Refusal.the-variants.{Unsound}
-use Rattle.table.specs.Holds.{columns}
+use Rattle.diagram.specs.Call.{columns}
 use Rattle.advance.proofs.Ends.{went-refused, went-closed, together-sound, run-unsound, run-next}
 use Rattle.advance.proofs.run_task.Statement.{statement}
 use Rattle.advance.proofs.run_task.Tie as tie

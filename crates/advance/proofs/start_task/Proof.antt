@@ -3,7 +3,7 @@ use mathlib.Core.Path.{refl, _∙_}
 use borrow.Author.Tests.{not-true, not-false}
 use borrow.Author.Needs.{needs}
 use Rattle.refusal.specs.declared.Refusal.the-variants.{Unsound}
-use Rattle.table.specs.Holds.{columns}
+use Rattle.diagram.specs.Call.{columns}
 use Rattle.functions.proofs.Carry.{judged-open}
 use Rattle.advance.proofs.Ends.{next-reached, went-refused, went-closed, start-unsound, start-next}
 use Rattle.advance.proofs.start_task.Statement.{statement}

@@ -6,7 +6,7 @@ use Prim.Native.Nat.{ℕ}
 use native.Mathlib.Omega.{arith}
 use lib.ListN.{replicate, length-replicate}
 use Rattle.refusal.specs.declared.Refusal.the-variants.{Unsound, Finished}
-use Rattle.table.specs.Holds.{columns}
+use Rattle.diagram.specs.Call.{columns}
 use Rattle.record.proofs.Leasts.{leasts-none}
 use Rattle.advance.proofs.Ends.{next-reached, went-refused, went-closed, together-sound, step-unsound, step-finished, step-next}
 use Rattle.advance.proofs.Moving.{open-room}

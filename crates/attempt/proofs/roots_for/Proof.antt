@@ -10,24 +10,25 @@ use Rattle.descent.proofs.Fill.{FilledTo, filled-none, filled-next}
 use Rattle.attempt.specs.Places.{RootsFor}
 use Rattle.attempt.proofs.roots_for.Statement.{statement}
 use Rattle.attempt.proofs.roots_for.Tie as tie
+use Rattle.net.specs.Roots.{leafLength, touchedPlace, pendingPlace, rootsLength, allPendingPlace}
 
 -- the last two places written
-placed : (roots out : List ℕ) (n : ℕ) → FilledTo (λ (i : ℕ). getD roots i 0) 92 90 out → RootsFor roots n (set (set out 90 (getD roots (90 + n) 0)) 91 (getD roots (116 + n) 0))
+placed : (roots out : List ℕ) (n : ℕ) → FilledTo (λ (i : ℕ). getD roots i 0) rootsLength leafLength out → RootsFor roots n (set (set out touchedPlace (getD roots (touchedPlace + n) 0)) pendingPlace (getD roots (allPendingPlace + n) 0))
 placed roots out n h = record {
   long = simp length-set (h .long);
-  leaf = λ j l. getD-set-other (set out 90 (getD roots (90 + n) 0)) 91 j (getD roots (116 + n) 0) 0 (λ e. omega arith) ∙ getD-set-other out 90 j (getD roots (90 + n) 0) 0 (λ e. omega arith) ∙ h .is j l;
-  touched = getD-set-other (set out 90 (getD roots (90 + n) 0)) 91 90 (getD roots (116 + n) 0) 0 (λ e. omega arith) ∙ getD-set-same out 90 (getD roots (90 + n) 0) 0 (omega (arith, h .long));
-  pending = getD-set-same (set out 90 (getD roots (90 + n) 0)) 91 (getD roots (116 + n) 0) 0 (simp length-set (omega (arith, h .long)));
+  leaf = λ j l. getD-set-other (set out touchedPlace (getD roots (touchedPlace + n) 0)) pendingPlace j (getD roots (allPendingPlace + n) 0) 0 (λ e. omega arith) ∙ getD-set-other out touchedPlace j (getD roots (touchedPlace + n) 0) 0 (λ e. omega arith) ∙ h .is j l;
+  touched = getD-set-other (set out touchedPlace (getD roots (touchedPlace + n) 0)) pendingPlace touchedPlace (getD roots (allPendingPlace + n) 0) 0 (λ e. omega arith) ∙ getD-set-same out touchedPlace (getD roots (touchedPlace + n) 0) 0 (omega (arith, h .long));
+  pending = getD-set-same (set out touchedPlace (getD roots (touchedPlace + n) 0)) pendingPlace (getD roots (allPendingPlace + n) 0) 0 (simp length-set (omega (arith, h .long)));
 }
 
 abbrev Inv-loop : tie.InvT-loop
-Inv-loop n roots out₀ j₀ out j = (j ≤ 90) × FilledTo (λ (i : ℕ). getD roots i 0) 92 j out
+Inv-loop n roots out₀ j₀ out j = (j ≤ leafLength) × FilledTo (λ (i : ℕ). getD roots i 0) rootsLength j out
 
 abbrev μ-loop : tie.MeasureT-loop
-μ-loop n roots out₀ j₀ out j = 90 - j
+μ-loop n roots out₀ j₀ out j = leafLength - j
 
 loop-holds : tie.Need-loop-holds Inv-loop μ-loop
-loop-holds c = (omega arith, filled-none _ 92 _ refl)
+loop-holds c = (omega arith, filled-none _ rootsLength _ refl)
 
 mul-out : tie.Need-mul-out Inv-loop μ-loop
 mul-out c = search needs
@@ -48,7 +49,7 @@ loop-less : tie.Need-loop-less Inv-loop μ-loop
 loop-less c = search needs
 
 loop-again : tie.Need-loop-again Inv-loop μ-loop
-loop-again c = (omega arith, filled-next _ 92 _ _ _ (c .before .loop .inv .1) (omega (arith, c .loop-test .taken)) refl)
+loop-again c = (omega arith, filled-next _ rootsLength _ _ _ (c .before .loop .inv .1) (omega (arith, c .loop-test .taken)) refl)
 
 add-out : tie.Need-add-out Inv-loop μ-loop
 add-out c = search needs
@@ -76,7 +77,7 @@ array-write-out-3 c = search needs
 
 returns : tie.Need-returns Inv-loop μ-loop
 returns c =
-    let z : c .before .loop .j ≡ 90 = omega (arith, c .before .loop .inv .0, c .loop-test .left) in
+    let z : c .before .loop .j ≡ touchedPlace = omega (arith, c .before .loop .inv .0, c .loop-test .left) in
     placed (c .before .before .args .t1) (c .before .loop .out) (c .before .before .args .n) (rw z at (c .before .loop .inv .1))
 
 pub roots-for-spec : {M : Type 1} → statement M

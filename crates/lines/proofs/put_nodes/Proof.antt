@@ -4,17 +4,16 @@ use Prim.Native.Nat.{_-_, _*_, _≤_}
 use native.Mathlib.Omega.{arith}
 use lib.ListN.{length}
 use borrow.Author.Needs.{needs}
-use Rattle.diagram.specs.Call.{tableOf}
-use Rattle.table.specs.Holds.{columns}
 use Rattle.lines.specs.Lines.{lineRoom, Put, nodeLines}
 use Rattle.lines.proofs.Pieces.{lines-none, lines-more, lines-all}
 use Rattle.lines.proofs.put_nodes.Statement.{statement}
 use Rattle.lines.proofs.put_nodes.Tie as tie
+use Rattle.diagram.specs.Held.{held}
 
 abbrev Inv-loop : tie.InvT-loop
 Inv-loop out₀ at letter low high all before values used time k nodes end₀ i₀ out end i =
     (i ≤ nodes) × (length out ≡ length out₀)
-    × Put out₀ out at (nodeLines k i (tableOf (columns letter low high) used) time all values before) (lineRoom * i) end
+    × Put out₀ out at (nodeLines k i (held letter low high used) time all values before) (lineRoom * i) end
 
 abbrev μ-loop : tie.MeasureT-loop
 μ-loop out₀ at letter low high all before values used time k nodes end₀ i₀ out end i = nodes - i

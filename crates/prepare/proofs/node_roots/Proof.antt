@@ -3,6 +3,7 @@ use native.Mathlib.Omega.{arith}
 use Prim.Native.Nat.{ℕ, _-_}
 use lib.ListN.{length-replicate}
 use Rattle.net.specs.Net.{at, netCircuit}
+use Rattle.net.specs.Roots.{allRootsLength}
 use Rattle.prepare.proofs.Placing.{Placing, placing-first, placing-next, placing-done, zeros-at}
 use Rattle.prepare.proofs.node_roots.Statement.{statement}
 use Rattle.prepare.proofs.node_roots.Tie as tie
@@ -23,7 +24,7 @@ add-count : tie.Need-add-count Inv-loop μ-loop
 add-count c = omega (arith, c .before .before .pre .within .nodes)
 
 loop-holds : tie.Need-loop-holds Inv-loop μ-loop
-loop-holds c = placing-first (length-replicate {A = ℕ} 142 0) (zeros-at 142)
+loop-holds c = placing-first (length-replicate {A = ℕ} allRootsLength 0) (zeros-at allRootsLength)
 
 mul-out : tie.Need-mul-out Inv-loop μ-loop
 mul-out c = omega (arith, c .before .before .before .before .pre .within .nodes, c .loop-test .taken)

@@ -4,14 +4,13 @@ use borrow.Author.Tests.{not-true, not-false}
 use mathlib.Core.Path.{sym, _∙_}
 use Prim.Native.Nat.{_-_, _≤_}
 use lib.ListN.{length}
-use Rattle.diagram.specs.Call.{rows}
-use Rattle.table.specs.Holds.{columns}
 use Rattle.table.proofs.Judge.{Blanks, blanks-none, blanks-next, blanks-fail, blanks-all}
 use Rattle.table.proofs.blank_from.Statement.{statement}
 use Rattle.table.proofs.blank_from.Tie as tie
+use Rattle.diagram.specs.Held.{entries}
 
 abbrev Inv-loop : tie.InvT-loop
-Inv-loop letter low high from i₀ i = (i ≤ length letter) × Blanks (rows (columns letter low high)) from i
+Inv-loop letter low high from i₀ i = (i ≤ length letter) × Blanks (entries letter low high) from i
 
 abbrev μ-loop : tie.MeasureT-loop
 μ-loop letter low high from i₀ i = length letter - i

@@ -6,41 +6,45 @@ use Rattle.table.proofs.Clearing.{legal-three, fresh-refused, fresh-don
 use Rattle.table.proofs.fresh.Statement.{statement}
 use Rattle.table.proofs.fresh.Tie as tie
 
+-- src/lib.rt:361:9
 lengths-legal-requires : tie.Need-lengths-legal-requires
 lengths-legal-requires c κs = search needs
 
+-- src/lib.rt:362:9
 same-length : tie.Need-same-length
 same-length c = search needs
 
+-- src/lib.rt:362:9
 same-length-2 : tie.Need-same-length-2
 same-length-2 c = search needs
 
+-- src/lib.rt:362:9
 same-length-3 : tie.Need-same-length-3
 same-length-3 c = search needs
 
+-- src/lib.rt:362:9
 returns : tie.Need-returns
 returns c = let s = c .before .before .before .before .before .before .before .before in fresh-refused (s .args .letter .now) (s .args .low .now) (s .args .high .now) (sym (c .before .lengths-legal .ensures) ∙ not-true _ (c .if1 .taken))
 
-begin-requires : tie.Need-begin-requires
-begin-requires c κs = let s = c .before .before .before .before .before .before .before .before .before in legal-three (s .args .letter .now) (s .args .low .now) (s .args .high .now) (sym (c .before .before .lengths-legal .ensures) ∙ not-false _ (c .before .if1 .left)) .0
+-- src/lib.rt:364:5
+renew-requires : tie.Need-renew-requires
+renew-requires c κs = let s = c .before .before .before .before .before .before .before .before .before .before .before in legal-three (s .args .letter .now) (s .args .low .now) (s .args .high .now) (sym (c .before .before .before .before .lengths-legal .ensures) ∙ not-false _ (c .before .before .before .if1 .left))
 
-begin-requires-2 : tie.Need-begin-requires-2
-begin-requires-2 c κs = let s = c .before .before .before .before .before .before .before .before .before .before .before .before .before in legal-three (s .args .letter .now) (s .args .low .now) (s .args .high .now) (sym (c .before .before .before .before .before .before .lengths-legal .ensures) ∙ not-false _ (c .before .before .before .before .before .if1 .left)) .1
-
-begin-requires-3 : tie.Need-begin-requires-3
-begin-requires-3 c κs = let s = c .before .before .before .before .before .before .before .before .before .before .before .before .before .before .before .before .before in legal-three (s .args .letter .now) (s .args .low .now) (s .args .high .now) (sym (c .before .before .before .before .before .before .before .before .before .before .lengths-legal .ensures) ∙ not-false _ (c .before .before .before .before .before .before .before .before .before .if1 .left)) .2
-
+-- src/lib.rt:358:1
 same-length-4 : tie.Need-same-length-4
 same-length-4 c = search needs
 
+-- src/lib.rt:358:1
 same-length-5 : tie.Need-same-length-5
 same-length-5 c = search needs
 
+-- src/lib.rt:358:1
 same-length-6 : tie.Need-same-length-6
 same-length-6 c = search needs
 
+-- src/lib.rt:358:1
 returns-2 : tie.Need-returns-2
-returns-2 c = let s = c .before .before .before .before .before .before .before .before .before .before .before .before .before .before .before .before .before .before .before .before in fresh-done (s .args .letter .now) (s .args .low .now) (s .args .high .now) (sym (c .before .before .before .before .before .before .before .before .before .before .before .before .before .lengths-legal .ensures) ∙ not-false _ (c .before .before .before .before .before .before .before .before .before .before .before .before .if1 .left)) _ _ _ (c .before .before .before .before .before .before .before .before .before .before .begin .ensures) (c .before .before .before .before .before .before .begin2 .ensures) (c .before .before .begin3 .ensures)
+returns-2 c = let s = c .before .before .before .before .before .before .before .before .before .before .before .before .before .before .before .before .before .before in fresh-done (s .args .letter .now) (s .args .low .now) (s .args .high .now) (sym (c .before .before .before .before .before .before .before .before .before .before .before .lengths-legal .ensures) ∙ not-false _ (c .before .before .before .before .before .before .before .before .before .before .if1 .left)) _ _ _ (c .before .before .before .before .before .before .renew .ensures)
 
 pub fresh-spec : {M : Type 1} → statement M
 fresh-spec =
@@ -51,9 +55,7 @@ fresh-spec =
     same-length-2
     same-length-3
     returns
-    begin-requires
-    begin-requires-2
-    begin-requires-3
+    renew-requires
     same-length-4
     same-length-5
     same-length-6

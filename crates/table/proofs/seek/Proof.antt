@@ -2,15 +2,14 @@
 use borrow.Author.Needs.{needs}
 use mathlib.Core.Path.{sym, _∙_}
 use Rattle.diagram.specs.Table.{branch}
-use Rattle.diagram.specs.Call.{rows}
+use Rattle.diagram.specs.Held.{entries}
 use Rattle.diagram.proofs.Sound.{same-equal, same-differ}
-use Rattle.table.specs.Holds.{columns}
 use Rattle.table.proofs.Search.{Seeking, seeking-start, seeking-next, seeking-less, seeking-found, seeking-none}
 use Rattle.table.proofs.seek.Statement.{statement}
 use Rattle.table.proofs.seek.Tie as tie
 
 abbrev Inv-loop : tie.InvT-loop
-Inv-loop letter low high index used k a b half head e₀ e = Seeking half (rows (columns letter low high)) used (branch k a b) e
+Inv-loop letter low high index used k a b half head e₀ e = Seeking half (entries letter low high) used (branch k a b) e
 
 abbrev μ-loop : tie.MeasureT-loop
 μ-loop letter low high index used k a b half head e₀ e = e

@@ -1,4 +1,5 @@
 -- `bring_part` meets its contract: each half has one letter less. Assumes nothing.
+use mathlib.Core.Path.{sym, _∙_}
 use native.Mathlib.Omega.{arith}
 use borrow.Author.Needs.{needs}
 use Rattle.functions.proofs.Halving.{low-full, low-open, high-full, high-holds, root-done}
@@ -11,6 +12,7 @@ use Rattle.working.proofs.bring_part.Kinds as bring-part-kinds
 use Rattle.working.proofs.+bring_part.Lts-bring_part as bring-part-lts
 use Rattle.functions.proofs.step.join.Reads as join-reads
 use Rattle.table.proofs.add.Reads as add-reads
+use Rattle.table.proofs.stopped.Reads as stopped-reads
 use Rattle.working.proofs.+bring_part.{statement}
 use Rattle.working.proofs.+bring_part.Tie.{close}
 
@@ -24,7 +26,16 @@ abbrev bring-part-below : ℕ → In 7 bring-part-kinds.ps
 bring-part-below t = and 7 bring-part-kinds.ps (falls 7 bring-part-kinds.ps _<_ μ-bring-part t) bring-part.Pre
 
 abbrev claims : ℕ → bring-part-lts.Claims
-claims t = (add-reads.Asked, add-reads.Learnt, bring-part-below t, bring-part.Post, join-reads.Asked, join-reads.Learnt)
+claims t = (
+  add-reads.Asked,
+  add-reads.Learnt,
+  bring-part-below t,
+  bring-part.Post,
+  stopped-reads.Asked,
+  stopped-reads.Learnt,
+  join-reads.Asked,
+  join-reads.Learnt,
+)
 
 module _ (t : ℕ) where
   mul-m : bring-part-lts.Need-mul-m (claims t) (bring-part-at t) bring-part.Post
@@ -69,59 +80,65 @@ module _ (t : ℕ) where
   bring-part-requires : bring-part-lts.Need-bring-part-requires (claims t) (bring-part-at t) bring-part.Post
   bring-part-requires c κs = (omega (arith, c .before .before .before .before .before .before .before .before .before .before .before .before .before .before .before .pre .0, bring-room (c .before .before .before .before .before .before .before .before .before .before .before .before .before .before .before .pre .1 .0 .0) (c .before .before .before .before .before .before .before .before .before .before .before .before .before .before .before .pre .1 .0 .1) (c .before .before .before .before .if1 .left)), ((c .before .before .before .before .before .before .before .before .before .before .before .before .before .before .before .pre .1 .0 .0, bring-low (c .before .before .before .before .before .before .before .before .before .before .before .before .before .before .before .pre .1 .0 .0) (c .before .before .before .before .before .before .before .before .before .before .before .before .before .before .before .pre .1 .0 .1) (c .before .before .before .before .if1 .left)), c .before .before .before .before .before .before .before .before .before .before .before .before .before .before .before .pre .1 .1))
 
+  stopped-requires : bring-part-lts.Need-stopped-requires (claims t) (bring-part-at t) bring-part.Post
+  stopped-requires c κs = search needs
+
   same-length-5 : bring-part-lts.Need-same-length-5 (claims t) (bring-part-at t) bring-part.Post
-  same-length-5 c = omega (arith, c .before .before .before .before .before .before .before .before .before .bring-part .kept .1 .1 .1 .1 .0)
+  same-length-5 c = omega (arith, c .before .before .before .before .before .before .before .before .before .before .bring-part .kept .1 .1 .1 .1 .0)
 
   same-length-6 : bring-part-lts.Need-same-length-6 (claims t) (bring-part-at t) bring-part.Post
-  same-length-6 c = omega (arith, c .before .before .before .before .before .before .before .before .before .bring-part .kept .1 .1 .1 .1 .1 .0)
+  same-length-6 c = omega (arith, c .before .before .before .before .before .before .before .before .before .before .bring-part .kept .1 .1 .1 .1 .1 .0)
 
   same-length-7 : bring-part-lts.Need-same-length-7 (claims t) (bring-part-at t) bring-part.Post
-  same-length-7 c = omega (arith, c .before .before .before .before .before .before .before .before .before .bring-part .kept .1 .1 .1 .1 .1 .1 .0)
+  same-length-7 c = omega (arith, c .before .before .before .before .before .before .before .before .before .before .bring-part .kept .1 .1 .1 .1 .1 .1 .0)
 
   same-length-8 : bring-part-lts.Need-same-length-8 (claims t) (bring-part-at t) bring-part.Post
-  same-length-8 c = omega (arith, c .before .before .before .before .before .before .before .before .before .bring-part .kept .1 .1 .1 .1 .1 .1 .1 .0)
+  same-length-8 c = omega (arith, c .before .before .before .before .before .before .before .before .before .before .bring-part .kept .1 .1 .1 .1 .1 .1 .1 .0)
 
   returns-2 : bring-part-lts.Need-returns-2 (claims t) (bring-part-at t) bring-part.Post
-  returns-2 c = low-full (c .before .before .before .before .before .before .before .before .before .before .before .before .before .before .before .before .before .before .before .before .before .before .before .before .before .pre .1 .1) (bring-halves (c .before .before .before .before .before .before .before .before .before .before .before .before .before .before .before .before .before .before .before .before .before .before .before .before .before .pre .1 .0 .0) (c .before .before .before .before .before .before .before .before .before .before .before .before .before .before .before .before .before .before .before .before .before .before .before .before .before .pre .1 .0 .1) (c .before .before .before .before .before .before .before .before .before .before .before .before .before .before .if1 .left) _ (open-sound (c .before .before .before .before .before .before .before .before .before .before .before .before .before .before .before .before .before .before .before .before .before .before .before .before .before .pre .1 .1))) (c .before .before .before .before .before .before .before .before .before .bring-part .ensures) (c .if2 .taken)
+  returns-2 c = low-full (c .before .before .before .before .before .before .before .before .before .before .before .before .before .before .before .before .before .before .before .before .before .before .before .before .before .before .pre .1 .1) (bring-halves (c .before .before .before .before .before .before .before .before .before .before .before .before .before .before .before .before .before .before .before .before .before .before .before .before .before .before .pre .1 .0 .0) (c .before .before .before .before .before .before .before .before .before .before .before .before .before .before .before .before .before .before .before .before .before .before .before .before .before .before .pre .1 .0 .1) (c .before .before .before .before .before .before .before .before .before .before .before .before .before .before .before .if1 .left) _ (open-sound (c .before .before .before .before .before .before .before .before .before .before .before .before .before .before .before .before .before .before .before .before .before .before .before .before .before .before .pre .1 .1))) (c .before .before .before .before .before .before .before .before .before .before .bring-part .ensures) (sym (c .before .stopped .ensures) ∙ c .if2 .taken)
 
   sub-bring-part-2 : bring-part-lts.Need-sub-bring-part-2 (claims t) (bring-part-at t) bring-part.Post
-  sub-bring-part-2 c = bring-room (c .before .before .before .before .before .before .before .before .before .before .before .before .before .before .before .before .before .before .before .before .before .before .before .before .before .before .before .before .before .pre .1 .0 .0) (c .before .before .before .before .before .before .before .before .before .before .before .before .before .before .before .before .before .before .before .before .before .before .before .before .before .before .before .before .before .pre .1 .0 .1) (c .before .before .before .before .before .before .before .before .before .before .before .before .before .before .before .before .before .before .if1 .left)
+  sub-bring-part-2 c = bring-room (c .before .before .before .before .before .before .before .before .before .before .before .before .before .before .before .before .before .before .before .before .before .before .before .before .before .before .before .before .before .before .pre .1 .0 .0) (c .before .before .before .before .before .before .before .before .before .before .before .before .before .before .before .before .before .before .before .before .before .before .before .before .before .before .before .before .before .before .pre .1 .0 .1) (c .before .before .before .before .before .before .before .before .before .before .before .before .before .before .before .before .before .before .before .if1 .left)
 
   bring-part-requires-2 : bring-part-lts.Need-bring-part-requires-2 (claims t) (bring-part-at t) bring-part.Post
-  bring-part-requires-2 c κs = (omega (arith, c .before .before .before .before .before .before .before .before .before .before .before .before .before .before .before .before .before .before .before .before .before .before .before .before .before .before .before .before .before .pre .0, bring-room (c .before .before .before .before .before .before .before .before .before .before .before .before .before .before .before .before .before .before .before .before .before .before .before .before .before .before .before .before .before .pre .1 .0 .0) (c .before .before .before .before .before .before .before .before .before .before .before .before .before .before .before .before .before .before .before .before .before .before .before .before .before .before .before .before .before .pre .1 .0 .1) (c .before .before .before .before .before .before .before .before .before .before .before .before .before .before .before .before .before .before .if1 .left)), ((c .before .before .before .before .before .before .before .before .before .before .before .before .before .before .before .before .before .before .before .before .before .before .before .before .before .before .before .before .before .pre .1 .0 .0, bring-high (c .before .before .before .before .before .before .before .before .before .before .before .before .before .before .before .before .before .before .before .before .before .before .before .before .before .before .before .before .before .pre .1 .0 .0) (c .before .before .before .before .before .before .before .before .before .before .before .before .before .before .before .before .before .before .before .before .before .before .before .before .before .before .before .before .before .pre .1 .0 .1) (c .before .before .before .before .before .before .before .before .before .before .before .before .before .before .before .before .before .before .if1 .left)), low-open (c .before .before .before .before .before .before .before .before .before .before .before .before .before .before .before .before .before .before .before .before .before .before .before .before .before .before .before .before .before .pre .1 .1) (bring-halves (c .before .before .before .before .before .before .before .before .before .before .before .before .before .before .before .before .before .before .before .before .before .before .before .before .before .before .before .before .before .pre .1 .0 .0) (c .before .before .before .before .before .before .before .before .before .before .before .before .before .before .before .before .before .before .before .before .before .before .before .before .before .before .before .before .before .pre .1 .0 .1) (c .before .before .before .before .before .before .before .before .before .before .before .before .before .before .before .before .before .before .if1 .left) _ (open-sound (c .before .before .before .before .before .before .before .before .before .before .before .before .before .before .before .before .before .before .before .before .before .before .before .before .before .before .before .before .before .pre .1 .1))) (c .before .before .before .before .before .before .before .before .before .before .before .before .before .bring-part .ensures) (c .before .before .before .before .if2 .left)))
+  bring-part-requires-2 c κs = (omega (arith, c .before .before .before .before .before .before .before .before .before .before .before .before .before .before .before .before .before .before .before .before .before .before .before .before .before .before .before .before .before .before .pre .0, bring-room (c .before .before .before .before .before .before .before .before .before .before .before .before .before .before .before .before .before .before .before .before .before .before .before .before .before .before .before .before .before .before .pre .1 .0 .0) (c .before .before .before .before .before .before .before .before .before .before .before .before .before .before .before .before .before .before .before .before .before .before .before .before .before .before .before .before .before .before .pre .1 .0 .1) (c .before .before .before .before .before .before .before .before .before .before .before .before .before .before .before .before .before .before .before .if1 .left)), ((c .before .before .before .before .before .before .before .before .before .before .before .before .before .before .before .before .before .before .before .before .before .before .before .before .before .before .before .before .before .before .pre .1 .0 .0, bring-high (c .before .before .before .before .before .before .before .before .before .before .before .before .before .before .before .before .before .before .before .before .before .before .before .before .before .before .before .before .before .before .pre .1 .0 .0) (c .before .before .before .before .before .before .before .before .before .before .before .before .before .before .before .before .before .before .before .before .before .before .before .before .before .before .before .before .before .before .pre .1 .0 .1) (c .before .before .before .before .before .before .before .before .before .before .before .before .before .before .before .before .before .before .before .if1 .left)), low-open (c .before .before .before .before .before .before .before .before .before .before .before .before .before .before .before .before .before .before .before .before .before .before .before .before .before .before .before .before .before .before .pre .1 .1) (bring-halves (c .before .before .before .before .before .before .before .before .before .before .before .before .before .before .before .before .before .before .before .before .before .before .before .before .before .before .before .before .before .before .pre .1 .0 .0) (c .before .before .before .before .before .before .before .before .before .before .before .before .before .before .before .before .before .before .before .before .before .before .before .before .before .before .before .before .before .before .pre .1 .0 .1) (c .before .before .before .before .before .before .before .before .before .before .before .before .before .before .before .before .before .before .before .if1 .left) _ (open-sound (c .before .before .before .before .before .before .before .before .before .before .before .before .before .before .before .before .before .before .before .before .before .before .before .before .before .before .before .before .before .before .pre .1 .1))) (c .before .before .before .before .before .before .before .before .before .before .before .before .before .before .bring-part .ensures) (sym (c .before .before .before .before .before .stopped .ensures) ∙ c .before .before .before .before .if2 .left)))
+
+  stopped-requires-2 : bring-part-lts.Need-stopped-requires-2 (claims t) (bring-part-at t) bring-part.Post
+  stopped-requires-2 c κs = search needs
 
   same-length-9 : bring-part-lts.Need-same-length-9 (claims t) (bring-part-at t) bring-part.Post
-  same-length-9 c = omega (arith, c .before .before .before .before .before .before .before .before .before .before .before .before .before .before .before .before .before .before .before .before .before .before .before .bring-part .kept .1 .1 .1 .1 .0, c .before .before .before .before .before .before .before .before .before .bring-part2 .kept .1 .1 .1 .1 .0)
+  same-length-9 c = omega (arith, c .before .before .before .before .before .before .before .before .before .before .before .before .before .before .before .before .before .before .before .before .before .before .before .before .before .bring-part .kept .1 .1 .1 .1 .0, c .before .before .before .before .before .before .before .before .before .before .bring-part2 .kept .1 .1 .1 .1 .0)
 
   same-length-10 : bring-part-lts.Need-same-length-10 (claims t) (bring-part-at t) bring-part.Post
-  same-length-10 c = omega (arith, c .before .before .before .before .before .before .before .before .before .before .before .before .before .before .before .before .before .before .before .before .before .before .before .bring-part .kept .1 .1 .1 .1 .1 .0, c .before .before .before .before .before .before .before .before .before .bring-part2 .kept .1 .1 .1 .1 .1 .0)
+  same-length-10 c = omega (arith, c .before .before .before .before .before .before .before .before .before .before .before .before .before .before .before .before .before .before .before .before .before .before .before .before .before .bring-part .kept .1 .1 .1 .1 .1 .0, c .before .before .before .before .before .before .before .before .before .before .bring-part2 .kept .1 .1 .1 .1 .1 .0)
 
   same-length-11 : bring-part-lts.Need-same-length-11 (claims t) (bring-part-at t) bring-part.Post
-  same-length-11 c = omega (arith, c .before .before .before .before .before .before .before .before .before .before .before .before .before .before .before .before .before .before .before .before .before .before .before .bring-part .kept .1 .1 .1 .1 .1 .1 .0, c .before .before .before .before .before .before .before .before .before .bring-part2 .kept .1 .1 .1 .1 .1 .1 .0)
+  same-length-11 c = omega (arith, c .before .before .before .before .before .before .before .before .before .before .before .before .before .before .before .before .before .before .before .before .before .before .before .before .before .bring-part .kept .1 .1 .1 .1 .1 .1 .0, c .before .before .before .before .before .before .before .before .before .before .bring-part2 .kept .1 .1 .1 .1 .1 .1 .0)
 
   same-length-12 : bring-part-lts.Need-same-length-12 (claims t) (bring-part-at t) bring-part.Post
-  same-length-12 c = omega (arith, c .before .before .before .before .before .before .before .before .before .before .before .before .before .before .before .before .before .before .before .before .before .before .before .bring-part .kept .1 .1 .1 .1 .1 .1 .1 .0, c .before .before .before .before .before .before .before .before .before .bring-part2 .kept .1 .1 .1 .1 .1 .1 .1 .0)
+  same-length-12 c = omega (arith, c .before .before .before .before .before .before .before .before .before .before .before .before .before .before .before .before .before .before .before .before .before .before .before .before .before .bring-part .kept .1 .1 .1 .1 .1 .1 .1 .0, c .before .before .before .before .before .before .before .before .before .before .bring-part2 .kept .1 .1 .1 .1 .1 .1 .1 .0)
 
   returns-3 : bring-part-lts.Need-returns-3 (claims t) (bring-part-at t) bring-part.Post
-  returns-3 c = high-full (c .before .before .before .before .before .before .before .before .before .before .before .before .before .before .before .before .before .before .before .before .before .before .before .before .before .before .before .before .before .before .before .before .before .before .before .before .before .before .before .pre .1 .1) (bring-halves (c .before .before .before .before .before .before .before .before .before .before .before .before .before .before .before .before .before .before .before .before .before .before .before .before .before .before .before .before .before .before .before .before .before .before .before .before .before .before .before .pre .1 .0 .0) (c .before .before .before .before .before .before .before .before .before .before .before .before .before .before .before .before .before .before .before .before .before .before .before .before .before .before .before .before .before .before .before .before .before .before .before .before .before .before .before .pre .1 .0 .1) (c .before .before .before .before .before .before .before .before .before .before .before .before .before .before .before .before .before .before .before .before .before .before .before .before .before .before .before .before .if1 .left) _ (open-sound (c .before .before .before .before .before .before .before .before .before .before .before .before .before .before .before .before .before .before .before .before .before .before .before .before .before .before .before .before .before .before .before .before .before .before .before .before .before .before .before .pre .1 .1))) (c .before .before .before .before .before .before .before .before .before .before .before .before .before .before .before .before .before .before .before .before .before .before .before .bring-part .ensures) (c .before .before .before .before .before .before .before .before .before .before .before .before .before .before .if2 .left) (c .before .before .before .before .before .before .before .before .before .bring-part2 .ensures) (c .if3 .taken)
+  returns-3 c = high-full (c .before .before .before .before .before .before .before .before .before .before .before .before .before .before .before .before .before .before .before .before .before .before .before .before .before .before .before .before .before .before .before .before .before .before .before .before .before .before .before .before .before .pre .1 .1) (bring-halves (c .before .before .before .before .before .before .before .before .before .before .before .before .before .before .before .before .before .before .before .before .before .before .before .before .before .before .before .before .before .before .before .before .before .before .before .before .before .before .before .before .before .pre .1 .0 .0) (c .before .before .before .before .before .before .before .before .before .before .before .before .before .before .before .before .before .before .before .before .before .before .before .before .before .before .before .before .before .before .before .before .before .before .before .before .before .before .before .before .before .pre .1 .0 .1) (c .before .before .before .before .before .before .before .before .before .before .before .before .before .before .before .before .before .before .before .before .before .before .before .before .before .before .before .before .before .before .if1 .left) _ (open-sound (c .before .before .before .before .before .before .before .before .before .before .before .before .before .before .before .before .before .before .before .before .before .before .before .before .before .before .before .before .before .before .before .before .before .before .before .before .before .before .before .before .before .pre .1 .1))) (c .before .before .before .before .before .before .before .before .before .before .before .before .before .before .before .before .before .before .before .before .before .before .before .before .before .bring-part .ensures) (sym (c .before .before .before .before .before .before .before .before .before .before .before .before .before .before .before .before .stopped .ensures) ∙ c .before .before .before .before .before .before .before .before .before .before .before .before .before .before .before .if2 .left) (c .before .before .before .before .before .before .before .before .before .before .bring-part2 .ensures) (sym (c .before .stopped2 .ensures) ∙ c .if3 .taken)
 
   join-requires : bring-part-lts.Need-join-requires (claims t) (bring-part-at t) bring-part.Post
-  join-requires c κs = high-holds (c .before .before .before .before .before .before .before .before .before .before .before .before .before .before .before .before .before .before .before .before .before .before .before .before .before .before .before .before .before .before .before .before .before .before .before .before .before .before .before .before .before .before .before .pre .1 .1) (bring-halves (c .before .before .before .before .before .before .before .before .before .before .before .before .before .before .before .before .before .before .before .before .before .before .before .before .before .before .before .before .before .before .before .before .before .before .before .before .before .before .before .before .before .before .before .pre .1 .0 .0) (c .before .before .before .before .before .before .before .before .before .before .before .before .before .before .before .before .before .before .before .before .before .before .before .before .before .before .before .before .before .before .before .before .before .before .before .before .before .before .before .before .before .before .before .pre .1 .0 .1) (c .before .before .before .before .before .before .before .before .before .before .before .before .before .before .before .before .before .before .before .before .before .before .before .before .before .before .before .before .before .before .before .before .if1 .left) _ (open-sound (c .before .before .before .before .before .before .before .before .before .before .before .before .before .before .before .before .before .before .before .before .before .before .before .before .before .before .before .before .before .before .before .before .before .before .before .before .before .before .before .before .before .before .before .pre .1 .1))) (c .before .before .before .before .before .before .before .before .before .before .before .before .before .before .before .before .before .before .before .before .before .before .before .before .before .before .before .bring-part .ensures) (c .before .before .before .before .before .before .before .before .before .before .before .before .before .before .before .before .before .before .if2 .left) (c .before .before .before .before .before .before .before .before .before .before .before .before .before .bring-part2 .ensures) (c .before .before .before .before .if3 .left)
+  join-requires c κs = high-holds (c .before .before .before .before .before .before .before .before .before .before .before .before .before .before .before .before .before .before .before .before .before .before .before .before .before .before .before .before .before .before .before .before .before .before .before .before .before .before .before .before .before .before .before .before .before .pre .1 .1) (bring-halves (c .before .before .before .before .before .before .before .before .before .before .before .before .before .before .before .before .before .before .before .before .before .before .before .before .before .before .before .before .before .before .before .before .before .before .before .before .before .before .before .before .before .before .before .before .before .pre .1 .0 .0) (c .before .before .before .before .before .before .before .before .before .before .before .before .before .before .before .before .before .before .before .before .before .before .before .before .before .before .before .before .before .before .before .before .before .before .before .before .before .before .before .before .before .before .before .before .before .pre .1 .0 .1) (c .before .before .before .before .before .before .before .before .before .before .before .before .before .before .before .before .before .before .before .before .before .before .before .before .before .before .before .before .before .before .before .before .before .before .if1 .left) _ (open-sound (c .before .before .before .before .before .before .before .before .before .before .before .before .before .before .before .before .before .before .before .before .before .before .before .before .before .before .before .before .before .before .before .before .before .before .before .before .before .before .before .before .before .before .before .before .before .pre .1 .1))) (c .before .before .before .before .before .before .before .before .before .before .before .before .before .before .before .before .before .before .before .before .before .before .before .before .before .before .before .before .before .bring-part .ensures) (sym (c .before .before .before .before .before .before .before .before .before .before .before .before .before .before .before .before .before .before .before .before .stopped .ensures) ∙ c .before .before .before .before .before .before .before .before .before .before .before .before .before .before .before .before .before .before .before .if2 .left) (c .before .before .before .before .before .before .before .before .before .before .before .before .before .before .bring-part2 .ensures) (sym (c .before .before .before .before .before .stopped2 .ensures) ∙ c .before .before .before .before .if3 .left)
 
   same-length-13 : bring-part-lts.Need-same-length-13 (claims t) (bring-part-at t) bring-part.Post
-  same-length-13 c = omega (arith, c .before .before .before .before .before .before .before .before .before .before .before .before .before .before .before .before .before .before .before .before .before .before .before .before .before .before .before .before .before .before .before .before .before .before .before .before .bring-part .kept .1 .1 .1 .1 .0, c .before .before .before .before .before .before .before .before .before .before .before .before .before .before .before .before .before .before .before .before .before .before .bring-part2 .kept .1 .1 .1 .1 .0, c .before .before .before .before .before .before .before .before .join .kept .0)
+  same-length-13 c = omega (arith, c .before .before .before .before .before .before .before .before .before .before .before .before .before .before .before .before .before .before .before .before .before .before .before .before .before .before .before .before .before .before .before .before .before .before .before .before .before .before .bring-part .kept .1 .1 .1 .1 .0, c .before .before .before .before .before .before .before .before .before .before .before .before .before .before .before .before .before .before .before .before .before .before .before .bring-part2 .kept .1 .1 .1 .1 .0, c .before .before .before .before .before .before .before .before .join .kept .0)
 
   same-length-14 : bring-part-lts.Need-same-length-14 (claims t) (bring-part-at t) bring-part.Post
-  same-length-14 c = omega (arith, c .before .before .before .before .before .before .before .before .before .before .before .before .before .before .before .before .before .before .before .before .before .before .before .before .before .before .before .before .before .before .before .before .before .before .before .before .bring-part .kept .1 .1 .1 .1 .1 .0, c .before .before .before .before .before .before .before .before .before .before .before .before .before .before .before .before .before .before .before .before .before .before .bring-part2 .kept .1 .1 .1 .1 .1 .0, c .before .before .before .before .before .before .before .before .join .kept .1 .0)
+  same-length-14 c = omega (arith, c .before .before .before .before .before .before .before .before .before .before .before .before .before .before .before .before .before .before .before .before .before .before .before .before .before .before .before .before .before .before .before .before .before .before .before .before .before .before .bring-part .kept .1 .1 .1 .1 .1 .0, c .before .before .before .before .before .before .before .before .before .before .before .before .before .before .before .before .before .before .before .before .before .before .before .bring-part2 .kept .1 .1 .1 .1 .1 .0, c .before .before .before .before .before .before .before .before .join .kept .1 .0)
 
   same-length-15 : bring-part-lts.Need-same-length-15 (claims t) (bring-part-at t) bring-part.Post
-  same-length-15 c = omega (arith, c .before .before .before .before .before .before .before .before .before .before .before .before .before .before .before .before .before .before .before .before .before .before .before .before .before .before .before .before .before .before .before .before .before .before .before .before .bring-part .kept .1 .1 .1 .1 .1 .1 .0, c .before .before .before .before .before .before .before .before .before .before .before .before .before .before .before .before .before .before .before .before .before .before .bring-part2 .kept .1 .1 .1 .1 .1 .1 .0, c .before .before .before .before .before .before .before .before .join .kept .1 .1 .0)
+  same-length-15 c = omega (arith, c .before .before .before .before .before .before .before .before .before .before .before .before .before .before .before .before .before .before .before .before .before .before .before .before .before .before .before .before .before .before .before .before .before .before .before .before .before .before .bring-part .kept .1 .1 .1 .1 .1 .1 .0, c .before .before .before .before .before .before .before .before .before .before .before .before .before .before .before .before .before .before .before .before .before .before .before .bring-part2 .kept .1 .1 .1 .1 .1 .1 .0, c .before .before .before .before .before .before .before .before .join .kept .1 .1 .0)
 
   same-length-16 : bring-part-lts.Need-same-length-16 (claims t) (bring-part-at t) bring-part.Post
-  same-length-16 c = omega (arith, c .before .before .before .before .before .before .before .before .before .before .before .before .before .before .before .before .before .before .before .before .before .before .before .before .before .before .before .before .before .before .before .before .before .before .before .before .bring-part .kept .1 .1 .1 .1 .1 .1 .1 .0, c .before .before .before .before .before .before .before .before .before .before .before .before .before .before .before .before .before .before .before .before .before .before .bring-part2 .kept .1 .1 .1 .1 .1 .1 .1 .0, c .before .before .before .before .before .before .before .before .join .kept .1 .1 .1 .0)
+  same-length-16 c = omega (arith, c .before .before .before .before .before .before .before .before .before .before .before .before .before .before .before .before .before .before .before .before .before .before .before .before .before .before .before .before .before .before .before .before .before .before .before .before .before .before .bring-part .kept .1 .1 .1 .1 .1 .1 .1 .0, c .before .before .before .before .before .before .before .before .before .before .before .before .before .before .before .before .before .before .before .before .before .before .before .bring-part2 .kept .1 .1 .1 .1 .1 .1 .1 .0, c .before .before .before .before .before .before .before .before .join .kept .1 .1 .1 .0)
 
   returns-4 : bring-part-lts.Need-returns-4 (claims t) (bring-part-at t) bring-part.Post
-  returns-4 c = root-done (c .before .before .before .before .before .before .before .before .before .before .before .before .before .before .before .before .before .before .before .before .before .before .before .before .before .before .before .before .before .before .before .before .before .before .before .before .before .before .before .before .before .before .before .before .before .before .before .before .before .before .before .before .pre .1 .1) (bring-halves (c .before .before .before .before .before .before .before .before .before .before .before .before .before .before .before .before .before .before .before .before .before .before .before .before .before .before .before .before .before .before .before .before .before .before .before .before .before .before .before .before .before .before .before .before .before .before .before .before .before .before .before .before .pre .1 .0 .0) (c .before .before .before .before .before .before .before .before .before .before .before .before .before .before .before .before .before .before .before .before .before .before .before .before .before .before .before .before .before .before .before .before .before .before .before .before .before .before .before .before .before .before .before .before .before .before .before .before .before .before .before .before .pre .1 .0 .1) (c .before .before .before .before .before .before .before .before .before .before .before .before .before .before .before .before .before .before .before .before .before .before .before .before .before .before .before .before .before .before .before .before .before .before .before .before .before .before .before .before .before .if1 .left) _ (open-sound (c .before .before .before .before .before .before .before .before .before .before .before .before .before .before .before .before .before .before .before .before .before .before .before .before .before .before .before .before .before .before .before .before .before .before .before .before .before .before .before .before .before .before .before .before .before .before .before .before .before .before .before .before .pre .1 .1))) (c .before .before .before .before .before .before .before .before .before .before .before .before .before .before .before .before .before .before .before .before .before .before .before .before .before .before .before .before .before .before .before .before .before .before .before .before .bring-part .ensures) (c .before .before .before .before .before .before .before .before .before .before .before .before .before .before .before .before .before .before .before .before .before .before .before .before .before .before .before .if2 .left) (c .before .before .before .before .before .before .before .before .before .before .before .before .before .before .before .before .before .before .before .before .before .before .bring-part2 .ensures) (c .before .before .before .before .before .before .before .before .before .before .before .before .before .if3 .left) (c .before .before .before .before .before .before .before .before .join .ensures)
+  returns-4 c = root-done (c .before .before .before .before .before .before .before .before .before .before .before .before .before .before .before .before .before .before .before .before .before .before .before .before .before .before .before .before .before .before .before .before .before .before .before .before .before .before .before .before .before .before .before .before .before .before .before .before .before .before .before .before .before .before .pre .1 .1) (bring-halves (c .before .before .before .before .before .before .before .before .before .before .before .before .before .before .before .before .before .before .before .before .before .before .before .before .before .before .before .before .before .before .before .before .before .before .before .before .before .before .before .before .before .before .before .before .before .before .before .before .before .before .before .before .before .before .pre .1 .0 .0) (c .before .before .before .before .before .before .before .before .before .before .before .before .before .before .before .before .before .before .before .before .before .before .before .before .before .before .before .before .before .before .before .before .before .before .before .before .before .before .before .before .before .before .before .before .before .before .before .before .before .before .before .before .before .before .pre .1 .0 .1) (c .before .before .before .before .before .before .before .before .before .before .before .before .before .before .before .before .before .before .before .before .before .before .before .before .before .before .before .before .before .before .before .before .before .before .before .before .before .before .before .before .before .before .before .if1 .left) _ (open-sound (c .before .before .before .before .before .before .before .before .before .before .before .before .before .before .before .before .before .before .before .before .before .before .before .before .before .before .before .before .before .before .before .before .before .before .before .before .before .before .before .before .before .before .before .before .before .before .before .before .before .before .before .before .before .before .pre .1 .1))) (c .before .before .before .before .before .before .before .before .before .before .before .before .before .before .before .before .before .before .before .before .before .before .before .before .before .before .before .before .before .before .before .before .before .before .before .before .before .before .bring-part .ensures) (sym (c .before .before .before .before .before .before .before .before .before .before .before .before .before .before .before .before .before .before .before .before .before .before .before .before .before .before .before .before .before .stopped .ensures) ∙ c .before .before .before .before .before .before .before .before .before .before .before .before .before .before .before .before .before .before .before .before .before .before .before .before .before .before .before .before .if2 .left) (c .before .before .before .before .before .before .before .before .before .before .before .before .before .before .before .before .before .before .before .before .before .before .before .bring-part2 .ensures) (sym (c .before .before .before .before .before .before .before .before .before .before .before .before .before .before .stopped2 .ensures) ∙ c .before .before .before .before .before .before .before .before .before .before .before .before .before .if3 .left) (c .before .before .before .before .before .before .before .before .join .ensures)
 
 pub +bring-part-spec : {M : Type 1} → statement M
 +bring-part-spec =
@@ -141,6 +158,7 @@ pub +bring-part-spec : {M : Type 1} → statement M
     (returns t)
     (sub-bring-part t)
     (bring-part-requires t)
+    (stopped-requires t)
     (same-length-5 t)
     (same-length-6 t)
     (same-length-7 t)
@@ -148,6 +166,7 @@ pub +bring-part-spec : {M : Type 1} → statement M
     (returns-2 t)
     (sub-bring-part-2 t)
     (bring-part-requires-2 t)
+    (stopped-requires-2 t)
     (same-length-9 t)
     (same-length-10 t)
     (same-length-11 t)

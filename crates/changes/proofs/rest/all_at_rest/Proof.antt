@@ -1,20 +1,21 @@
 -- `all_at_rest` meets its contract: node after node. Assumes nothing.
+use borrow.Author.Needs.{needs}
+use mathlib.Core.Path.{sym, _∙_}
 use Prim.Native.Nat.{_+_, _-_}
 use native.Mathlib.Omega.{arith}
 use lib.ListN.{length}
-use Rattle.diagram.specs.Call.{tableOf}
 use Rattle.net.specs.Net.{at, netCircuit}
 use Rattle.net.proofs.Laying.{nodes-length}
-use Rattle.table.specs.Holds.{columns}
 use Rattle.values.proofs.Series.{Storing, storing-first, storing-open, storing-longer, storing-next, storing-stop, storing-done}
 use Rattle.changes.specs.Rest.{restOf}
 use Rattle.changes.proofs.Resting.{rest-same}
 use Rattle.changes.proofs.Leasting.{leasts-storing}
 use Rattle.changes.proofs.rest.all_at_rest.Statement.{statement}
 use Rattle.changes.proofs.rest.all_at_rest.Tie as tie
+use Rattle.diagram.specs.Held.{held}
 
 abbrev Inv-loop : tie.InvT-loop
-Inv-loop net letter₀ low₀ high₀ index₀ used time least pending count out₀ now₀ i₀ letter low high index out now i = Storing (length (netCircuit net .nodes)) (at net 3) (restOf (netCircuit net) time (at net 3) (tableOf (columns letter₀ low₀ high₀) used) pending) letter₀ low₀ high₀ index₀ used letter low high index now out i
+Inv-loop net letter₀ low₀ high₀ index₀ used time least pending count out₀ now₀ i₀ letter low high index out now i = Storing (length (netCircuit net .nodes)) (at net 3) (restOf (netCircuit net) time (at net 3) (held letter₀ low₀ high₀ used) pending) letter₀ low₀ high₀ index₀ used letter low high index now out i
 
 abbrev μ-loop : tie.MeasureT-loop
 μ-loop net letter₀ low₀ high₀ index₀ used time least pending count out₀ now₀ i₀ letter low high index out now i = count - i
@@ -26,7 +27,7 @@ cast-count : tie.Need-cast-count Inv-loop μ-loop
 cast-count c = omega (arith, c .before .before .before .before .before .before .before .pre .0 .within .nodes)
 
 loop-holds : tie.Need-loop-holds Inv-loop μ-loop
-loop-holds c = let s = c .before .before .before .before .before .before .before in storing-first (length (netCircuit (s .args .net .now) .nodes)) (restOf (netCircuit (s .args .net .now)) (s .args .time) (at (s .args .net .now) 3) (tableOf (columns (s .args .letter .now) (s .args .low .now) (s .args .high .now)) (s .args .used)) (s .args .t8)) (s .pre .1)
+loop-holds c = let s = c .before .before .before .before .before .before .before in storing-first (length (netCircuit (s .args .net .now) .nodes)) (restOf (netCircuit (s .args .net .now)) (s .args .time) (at (s .args .net .now) 3) (held (s .args .letter .now) (s .args .low .now) (s .args .high .now) (s .args .used)) (s .args .t8)) (s .pre .1)
 
 cast-at-rest : tie.Need-cast-at-rest Inv-loop μ-loop
 cast-at-rest c = omega (arith, c .before .before .before .before .before .before .before .before .before .before .before .before .before .pre .0 .within .nodes, c .before .before .before .before .loop-test .taken)
@@ -46,35 +47,38 @@ array-read-at-rest c = omega (arith, c .before .before .before .before .before .
 at-rest-requires : tie.Need-at-rest-requires Inv-loop μ-loop
 at-rest-requires c κs = let s = c .before .before .before .before .before .before .before .before .before .before .before .before .before in let l = c .before .before .before .before .before .loop in (s .pre .0, record { least = omega arith; most = omega (arith, c .before .before .before .before .loop-test .taken) }, storing-open (l .inv), omega (arith, s .pre .2 .within (l .i + 2) (omega (arith, s .pre .0 .within .nodes, c .before .before .before .before .loop-test .taken)), storing-longer (l .inv)), leasts-storing (l .inv) (s .pre .2 .within (l .i + 2) (omega (arith, s .pre .0 .within .nodes, c .before .before .before .before .loop-test .taken))) (s .pre .3 (l .i + 2) (omega (arith, s .pre .0 .within .nodes, c .before .before .before .before .loop-test .taken))))
 
+stopped-requires : tie.Need-stopped-requires Inv-loop μ-loop
+stopped-requires c κs = search needs
+
 same-length : tie.Need-same-length Inv-loop μ-loop
-same-length c = omega (arith, c .before .before .before .before .before .before .before .before .before .before .before .before .before .before .before .loop .inv .letter-long, c .before .before .before .before .before .before .before .before .before .at-rest .kept .1 .0)
+same-length c = omega (arith, c .before .before .before .before .before .before .before .before .before .before .before .before .before .before .before .before .loop .inv .letter-long, c .before .before .before .before .before .before .before .before .before .before .at-rest .kept .1 .0)
 
 same-length-2 : tie.Need-same-length-2 Inv-loop μ-loop
-same-length-2 c = omega (arith, c .before .before .before .before .before .before .before .before .before .before .before .before .before .before .before .loop .inv .low-long, c .before .before .before .before .before .before .before .before .before .at-rest .kept .1 .1 .0)
+same-length-2 c = omega (arith, c .before .before .before .before .before .before .before .before .before .before .before .before .before .before .before .before .loop .inv .low-long, c .before .before .before .before .before .before .before .before .before .before .at-rest .kept .1 .1 .0)
 
 same-length-3 : tie.Need-same-length-3 Inv-loop μ-loop
-same-length-3 c = omega (arith, c .before .before .before .before .before .before .before .before .before .before .before .before .before .before .before .loop .inv .high-long, c .before .before .before .before .before .before .before .before .before .at-rest .kept .1 .1 .1 .0)
+same-length-3 c = omega (arith, c .before .before .before .before .before .before .before .before .before .before .before .before .before .before .before .before .loop .inv .high-long, c .before .before .before .before .before .before .before .before .before .before .at-rest .kept .1 .1 .1 .0)
 
 same-length-4 : tie.Need-same-length-4 Inv-loop μ-loop
-same-length-4 c = omega (arith, c .before .before .before .before .before .before .before .before .before .before .before .before .before .before .before .loop .inv .index-long, c .before .before .before .before .before .before .before .before .before .at-rest .kept .1 .1 .1 .1 .0)
+same-length-4 c = omega (arith, c .before .before .before .before .before .before .before .before .before .before .before .before .before .before .before .before .loop .inv .index-long, c .before .before .before .before .before .before .before .before .before .before .at-rest .kept .1 .1 .1 .1 .0)
 
 returns : tie.Need-returns Inv-loop μ-loop
-returns c = let s = c .before .before .before .before .before .before .before .before .before .before .before .before .before .before .before .before .before .before .before .before .before .before .before in let l = c .before .before .before .before .before .before .before .before .before .before .before .before .before .before .before .loop in storing-stop (l .inv) _ (c .before .before .before .before .before .before .before .before .before .at-rest .ensures) (λ p h. rest-same (l .inv) (netCircuit (s .args .net .now)) (s .args .time) (s .args .t8) (s .pre .2 .within (l .i + 2) (omega (arith, s .pre .0 .within .nodes, c .before .before .before .before .before .before .before .before .before .before .before .before .before .before .loop-test .taken))) p) (c .if1 .taken) (omega (arith, nodes-length (s .args .net .now), c .before .before .before .before .before .before .before .before .before .before .before .before .before .before .loop-test .taken)) _ _
+returns c = let s = c .before .before .before .before .before .before .before .before .before .before .before .before .before .before .before .before .before .before .before .before .before .before .before .before in let l = c .before .before .before .before .before .before .before .before .before .before .before .before .before .before .before .before .loop in storing-stop (l .inv) _ (c .before .before .before .before .before .before .before .before .before .before .at-rest .ensures) (λ p h. rest-same (l .inv) (netCircuit (s .args .net .now)) (s .args .time) (s .args .t8) (s .pre .2 .within (l .i + 2) (omega (arith, s .pre .0 .within .nodes, c .before .before .before .before .before .before .before .before .before .before .before .before .before .before .before .loop-test .taken))) p) (sym (c .before .stopped .ensures) ∙ c .if1 .taken) (omega (arith, nodes-length (s .args .net .now), c .before .before .before .before .before .before .before .before .before .before .before .before .before .before .before .loop-test .taken)) _ _
 
 mul-out : tie.Need-mul-out Inv-loop μ-loop
-mul-out c = omega (arith, c .before .before .before .before .before .before .before .before .before .before .before .before .before .before .before .before .before .before .before .before .before .before .before .pre .0 .within .nodes, c .before .before .before .before .before .before .before .before .before .before .before .before .before .before .loop-test .taken)
+mul-out c = omega (arith, c .before .before .before .before .before .before .before .before .before .before .before .before .before .before .before .before .before .before .before .before .before .before .before .before .pre .0 .within .nodes, c .before .before .before .before .before .before .before .before .before .before .before .before .before .before .before .loop-test .taken)
 
 array-write-out : tie.Need-array-write-out Inv-loop μ-loop
-array-write-out c = omega (arith, c .before .before .before .before .before .before .before .before .before .before .before .before .before .before .before .before .before .before .before .before .before .before .before .pre .0 .within .nodes, c .before .before .before .before .before .before .before .before .before .before .before .before .before .before .loop-test .taken)
+array-write-out c = omega (arith, c .before .before .before .before .before .before .before .before .before .before .before .before .before .before .before .before .before .before .before .before .before .before .before .before .pre .0 .within .nodes, c .before .before .before .before .before .before .before .before .before .before .before .before .before .before .before .loop-test .taken)
 
 add-i : tie.Need-add-i Inv-loop μ-loop
-add-i c = omega (arith, c .before .before .before .before .before .before .before .before .before .before .before .before .before .before .before .before .before .before .before .before .before .before .before .pre .0 .within .nodes, c .before .before .before .before .before .before .before .before .before .before .before .before .before .before .loop-test .taken)
+add-i c = omega (arith, c .before .before .before .before .before .before .before .before .before .before .before .before .before .before .before .before .before .before .before .before .before .before .before .before .pre .0 .within .nodes, c .before .before .before .before .before .before .before .before .before .before .before .before .before .before .before .loop-test .taken)
 
 loop-less : tie.Need-loop-less Inv-loop μ-loop
-loop-less c = omega (arith, c .before .before .before .before .before .before .before .before .before .before .before .before .before .before .loop-test .taken)
+loop-less c = omega (arith, c .before .before .before .before .before .before .before .before .before .before .before .before .before .before .before .loop-test .taken)
 
 loop-again : tie.Need-loop-again Inv-loop μ-loop
-loop-again c = let s = c .before .before .before .before .before .before .before .before .before .before .before .before .before .before .before .before .before .before .before .before .before .before .before in let l = c .before .before .before .before .before .before .before .before .before .before .before .before .before .before .before .loop in storing-next (l .inv) _ (c .before .before .before .before .before .before .before .before .before .at-rest .ensures) (λ p h. rest-same (l .inv) (netCircuit (s .args .net .now)) (s .args .time) (s .args .t8) (s .pre .2 .within (l .i + 2) (omega (arith, s .pre .0 .within .nodes, c .before .before .before .before .before .before .before .before .before .before .before .before .before .before .loop-test .taken))) p) (c .if1 .left) (omega (arith, nodes-length (s .args .net .now), c .before .before .before .before .before .before .before .before .before .before .before .before .before .before .loop-test .taken)) (omega (arith, nodes-length (s .args .net .now), s .pre .0 .within .nodes)) (c .before .before .before .before .before .before .before .before .before .at-rest .kept .1 .0) (c .before .before .before .before .before .before .before .before .before .at-rest .kept .1 .1 .0) (c .before .before .before .before .before .before .before .before .before .at-rest .kept .1 .1 .1 .0) (c .before .before .before .before .before .before .before .before .before .at-rest .kept .1 .1 .1 .1 .0)
+loop-again c = let s = c .before .before .before .before .before .before .before .before .before .before .before .before .before .before .before .before .before .before .before .before .before .before .before .before in let l = c .before .before .before .before .before .before .before .before .before .before .before .before .before .before .before .before .loop in storing-next (l .inv) _ (c .before .before .before .before .before .before .before .before .before .before .at-rest .ensures) (λ p h. rest-same (l .inv) (netCircuit (s .args .net .now)) (s .args .time) (s .args .t8) (s .pre .2 .within (l .i + 2) (omega (arith, s .pre .0 .within .nodes, c .before .before .before .before .before .before .before .before .before .before .before .before .before .before .before .loop-test .taken))) p) (sym (c .before .stopped .ensures) ∙ c .if1 .left) (omega (arith, nodes-length (s .args .net .now), c .before .before .before .before .before .before .before .before .before .before .before .before .before .before .before .loop-test .taken)) (omega (arith, nodes-length (s .args .net .now), s .pre .0 .within .nodes)) (c .before .before .before .before .before .before .before .before .before .before .at-rest .kept .1 .0) (c .before .before .before .before .before .before .before .before .before .before .at-rest .kept .1 .1 .0) (c .before .before .before .before .before .before .before .before .before .before .at-rest .kept .1 .1 .1 .0) (c .before .before .before .before .before .before .before .before .before .before .at-rest .kept .1 .1 .1 .1 .0)
 
 same-length-5 : tie.Need-same-length-5 Inv-loop μ-loop
 same-length-5 c = omega (arith, c .before .loop .inv .letter-long)
@@ -106,6 +110,7 @@ all-at-rest-spec =
     mul-at-rest
     array-read-at-rest
     at-rest-requires
+    stopped-requires
     same-length
     same-length-2
     same-length-3

@@ -1,10 +1,8 @@
 -- `by_roots` meets its contract: an input has no next change. Assumes nothing.
 use mathlib.Core.Path.{sym, _∙_}
 use borrow.Author.Tests.{not-true, not-false}
-use Rattle.diagram.specs.Call.{tableOf}
 use Rattle.rules.specs.State.{isInner}
 use Rattle.net.specs.Net.{at, netCircuit}
-use Rattle.table.specs.Holds.{columns}
 use Rattle.descent.specs.Settle.{settledBy}
 use Rattle.changes.specs.ByRoots.{rootsFor}
 use Rattle.changes.proofs.Single.{outer-put}
@@ -12,12 +10,13 @@ use Rattle.changes.proofs.Rooting.{own-rooted, own-settled}
 use native.Mathlib.Omega.{arith}
 use Rattle.changes.proofs.roots.by_roots.Statement.{statement}
 use Rattle.changes.proofs.roots.by_roots.Tie as tie
+use Rattle.diagram.specs.Held.{held}
 
 is-inner-requires : tie.Need-is-inner-requires
 is-inner-requires c κs = (c .before .before .before .before .before .before .before .before .pre .0 .cell .long, c .before .before .before .before .before .before .before .before .pre .0 .cell .within, c .before .before .before .before .before .before .before .before .pre .1 .most)
 
 returns : tie.Need-returns
-returns c = let s = c .before .before .before .before .before .before .before .before .before .before in outer-put (s .pre .2) (isInner (netCircuit (s .args .net .now)) (s .args .n)) (settledBy (netCircuit (s .args .net .now)) (s .args .time) (s .args .n) (at (s .args .net .now) 3) (tableOf (columns (s .args .wletter .now) (s .args .wlow .now) (s .args .whigh .now)) (s .args .wused)) (rootsFor (s .args .roots) (s .args .n))) (sym (c .before .is-inner .ensures) ∙ not-true _ (c .if1 .taken))
+returns c = let s = c .before .before .before .before .before .before .before .before .before .before in outer-put (s .pre .2) (isInner (netCircuit (s .args .net .now)) (s .args .n)) (settledBy (netCircuit (s .args .net .now)) (s .args .time) (s .args .n) (at (s .args .net .now) 3) (held (s .args .wletter .now) (s .args .wlow .now) (s .args .whigh .now) (s .args .wused)) (rootsFor (s .args .roots) (s .args .n))) (sym (c .before .is-inner .ensures) ∙ not-true _ (c .if1 .taken))
 
 shared-slice-read-k : tie.Need-shared-slice-read-k
 shared-slice-read-k c = omega (arith, c .before .before .before .before .before .before .before .before .before .before .before .pre .0 .cell .long)

@@ -22,8 +22,8 @@ shared-slice-read-count c = search needs
 loop-holds : tie.Need-loop-holds Inv-loop μ-loop
 loop-holds c = (omega arith, refl)
 
-stirs-requires : tie.Need-stirs-requires Inv-loop μ-loop
-stirs-requires c κs = search needs
+disturbed-requires : tie.Need-disturbed-requires Inv-loop μ-loop
+disturbed-requires c κs = search needs
 
 returns : tie.Need-returns Inv-loop μ-loop
 returns c =
@@ -32,7 +32,7 @@ returns c =
     let l = c .before .before .before .loop in
     let test = disturbedAt (netCircuit net) (s .args .before .now) (s .args .after .now) in
     let below = c .before .before .loop-test .taken in
-    let hit = ap test (transistor-at net (l .i) below) ∙ sym (c .before .stirs .ensures) ∙ c .if1 .taken in
+    let hit = ap test (transistor-at net (l .i) below) ∙ sym (c .before .disturbed .ensures) ∙ c .if1 .taken in
     sym (some-hit test (netCircuit net .transistors) (l .i) (omega (arith, transistors-length net)) (l .inv .1) hit)
 
 add-i : tie.Need-add-i Inv-loop μ-loop
@@ -48,7 +48,7 @@ loop-again c =
     let l = c .before .before .before .loop in
     let test = disturbedAt (netCircuit net) (s .args .before .now) (s .args .after .now) in
     let below = c .before .before .loop-test .taken in
-    let miss = ap test (transistor-at net (l .i) below) ∙ sym (c .before .stirs .ensures) ∙ c .if1 .left in
+    let miss = ap test (transistor-at net (l .i) below) ∙ sym (c .before .disturbed .ensures) ∙ c .if1 .left in
     (omega arith, some-next test (netCircuit net .transistors) (l .i) (omega (arith, transistors-length net)) (l .inv .1) miss)
 
 returns-2 : tie.Need-returns-2 Inv-loop μ-loop
@@ -60,4 +60,4 @@ returns-2 c =
     sym (some-ends test (netCircuit net .transistors) (l .i) (omega (arith, transistors-length net)) (l .inv .1))
 
 pub stirred-spec : {M : Type 1} → statement M
-stirred-spec = tie.close (tie.spec Inv-loop μ-loop shared-slice-read-count loop-holds stirs-requires returns add-i loop-less loop-again returns-2)
+stirred-spec = tie.close (tie.spec Inv-loop μ-loop shared-slice-read-count loop-holds disturbed-requires returns add-i loop-less loop-again returns-2)

@@ -27,8 +27,8 @@ mul-marked c = search needs
 array-read-marked : tie.Need-array-read-marked Inv-loop μ-loop
 array-read-marked c = omega (arith, c .group-of .ensures .1, c .before .before .loop .inv .long)
 
-stirs-requires : tie.Need-stirs-requires Inv-loop μ-loop
-stirs-requires c κs = (c .before .before .before .before .before .before .before .pre .0, (c .before .before .before .before .before .before .before .pre .1 .0, c .before .before .before .before .before .before .before .pre .1 .1, c .before .loop-test .taken))
+disturbed-requires : tie.Need-disturbed-requires Inv-loop μ-loop
+disturbed-requires c κs = (c .before .before .before .before .before .before .before .pre .0, (c .before .before .before .before .before .before .before .pre .1 .0, c .before .before .before .before .before .before .before .pre .1 .1, c .before .loop-test .taken))
 
 marked-requires : tie.Need-marked-requires Inv-loop μ-loop
 marked-requires c κs = search needs
@@ -46,7 +46,7 @@ loop-less : tie.Need-loop-less Inv-loop μ-loop
 loop-less c = omega (arith, c .before .before .before .loop-test .taken)
 
 loop-again : tie.Need-loop-again Inv-loop μ-loop
-loop-again c = marking-next (c .before .before .before .before .loop .inv) (c .before .before .before .loop-test .taken) (c .before .before .group-of .ensures .0) (c .before .before .group-of .ensures .1) (c .before .stirs .ensures) (c .marked .ensures)
+loop-again c = marking-next (c .before .before .before .before .loop .inv) (c .before .before .before .loop-test .taken) (c .before .before .group-of .ensures .0) (c .before .before .group-of .ensures .1) (c .before .disturbed .ensures) (c .marked .ensures)
 
 returns : tie.Need-returns Inv-loop μ-loop
 returns c = marking-done (c .before .loop .inv) (omega (arith, c .loop-test .left))
@@ -62,7 +62,7 @@ stirred-groups-spec =
     group-of-requires
     mul-marked
     array-read-marked
-    stirs-requires
+    disturbed-requires
     marked-requires
     mul-out
     array-write-out

@@ -7,15 +7,16 @@ use borrow.Author.Needs.{needs}
 use Rattle.descent.proofs.Fill.{FilledTo, filled-none, filled-next}
 use Rattle.descent.proofs.letters.leaf_numbers.Statement.{statement}
 use Rattle.descent.proofs.letters.leaf_numbers.Tie as tie
+use Rattle.net.specs.Roots.{rootsLength}
 
 abbrev Inv-loop : tie.InvT-loop
-Inv-loop low roots out₀ j₀ out j = (j ≤ 92) × FilledTo (λ (i : ℕ). getD low (getD roots i 0) 0) 92 j out
+Inv-loop low roots out₀ j₀ out j = (j ≤ rootsLength) × FilledTo (λ (i : ℕ). getD low (getD roots i 0) 0) rootsLength j out
 
 abbrev μ-loop : tie.MeasureT-loop
-μ-loop low roots out₀ j₀ out j = 92 - j
+μ-loop low roots out₀ j₀ out j = rootsLength - j
 
 loop-holds : tie.Need-loop-holds Inv-loop μ-loop
-loop-holds c = (omega arith, filled-none _ 92 _ refl)
+loop-holds c = (omega arith, filled-none _ rootsLength _ refl)
 
 mul-entry-of : tie.Need-mul-entry-of Inv-loop μ-loop
 mul-entry-of c = search needs
@@ -39,7 +40,7 @@ loop-less : tie.Need-loop-less Inv-loop μ-loop
 loop-less c = search needs
 
 loop-again : tie.Need-loop-again Inv-loop μ-loop
-loop-again c = (omega arith, filled-next _ 92 _ _ _ (c .before .before .before .loop .inv .1) (c .before .before .loop-test .taken) (c .entry-of .ensures))
+loop-again c = (omega arith, filled-next _ rootsLength _ _ _ (c .before .before .before .loop .inv .1) (c .before .before .loop-test .taken) (c .entry-of .ensures))
 
 returns : tie.Need-returns Inv-loop μ-loop
 returns c = record { long = c .before .loop .inv .1 .long; is = λ j h. c .before .loop .inv .1 .is j (omega arith) }

@@ -6,12 +6,13 @@ use borrow.Author.Needs.{needs}
 use Rattle.descent.proofs.Fill.{LeastTo, least-none, least-next}
 use Rattle.descent.proofs.letters.least_letter.Statement.{statement}
 use Rattle.descent.proofs.letters.least_letter.Tie as tie
+use Rattle.net.specs.Roots.{rootsLength}
 
 abbrev Inv-loop : tie.InvT-loop
-Inv-loop letter roots m₀ j₀ m j = (j ≤ 92) × LeastTo letter roots j m
+Inv-loop letter roots m₀ j₀ m j = (j ≤ rootsLength) × LeastTo letter roots j m
 
 abbrev μ-loop : tie.MeasureT-loop
-μ-loop letter roots m₀ j₀ m j = 92 - j
+μ-loop letter roots m₀ j₀ m j = rootsLength - j
 
 loop-holds : tie.Need-loop-holds Inv-loop μ-loop
 loop-holds c = (omega arith, least-none _ _)

@@ -6,15 +6,16 @@ use Rattle.descent.proofs.Fill.{FilledTo, filled-none, filled-next}
 use borrow.Author.Needs.{needs}
 use Rattle.descent.proofs.live.all_places.Statement.{statement}
 use Rattle.descent.proofs.live.all_places.Tie as tie
+use Rattle.net.specs.Roots.{rootsLength}
 
 abbrev Inv-loop : tie.InvT-loop
-Inv-loop out₀ i₀ out i = (i ≤ 92) × FilledTo (λ (j : ℕ). j) 92 i out
+Inv-loop out₀ i₀ out i = (i ≤ rootsLength) × FilledTo (λ (j : ℕ). j) rootsLength i out
 
 abbrev μ-loop : tie.MeasureT-loop
-μ-loop out₀ i₀ out i = 92 - i
+μ-loop out₀ i₀ out i = rootsLength - i
 
 loop-holds : tie.Need-loop-holds Inv-loop μ-loop
-loop-holds c = (omega arith, filled-none _ 92 _ refl)
+loop-holds c = (omega arith, filled-none _ rootsLength _ refl)
 
 cast-at : tie.Need-cast-at Inv-loop μ-loop
 cast-at c = search needs
@@ -32,7 +33,7 @@ loop-less : tie.Need-loop-less Inv-loop μ-loop
 loop-less c = search needs
 
 loop-again : tie.Need-loop-again Inv-loop μ-loop
-loop-again c = (omega arith, filled-next _ 92 _ _ _ (c .before .loop .inv .1) (c .loop-test .taken) refl)
+loop-again c = (omega arith, filled-next _ rootsLength _ _ _ (c .before .loop .inv .1) (c .loop-test .taken) refl)
 
 returns : tie.Need-returns Inv-loop μ-loop
 returns c = (c .before .loop .inv .1 .long, λ j h. c .before .loop .inv .1 .is j (omega arith))

@@ -5,12 +5,13 @@ use borrow.Author.Needs.{needs}
 use Rattle.descent.proofs.Slots.{KeptTo, kept-none, kept-next, kept-all}
 use Rattle.descent.proofs.memo.keep.Statement.{statement}
 use Rattle.descent.proofs.memo.keep.Tie as tie
+use Rattle.net.specs.Roots.{rootsLength}
 
 abbrev Inv-loop : tie.InvT-loop
-Inv-loop memo₀ slot roots e from i₀ memo i = (i ≤ 92) × KeptTo memo₀ slot roots i memo
+Inv-loop memo₀ slot roots e from i₀ memo i = (i ≤ rootsLength) × KeptTo memo₀ slot roots i memo
 
 abbrev μ-loop : tie.MeasureT-loop
-μ-loop memo₀ slot roots e from i₀ memo i = 92 - i
+μ-loop memo₀ slot roots e from i₀ memo i = rootsLength - i
 
 mul-from : tie.Need-mul-from Inv-loop μ-loop
 mul-from c = search needs

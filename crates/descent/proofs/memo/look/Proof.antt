@@ -5,12 +5,13 @@ use borrow.Author.Needs.{needs}
 use Rattle.descent.proofs.Slots.{SameTo, same-none, same-next, looked-free, looked-other, looked-same}
 use Rattle.descent.proofs.memo.look.Statement.{statement}
 use Rattle.descent.proofs.memo.look.Tie as tie
+use Rattle.net.specs.Roots.{rootsLength}
 
 abbrev Inv-loop : tie.InvT-loop
-Inv-loop memo slot roots word from j₀ j = (j ≤ 92) × SameTo memo slot roots j
+Inv-loop memo slot roots word from j₀ j = (j ≤ rootsLength) × SameTo memo slot roots j
 
 abbrev μ-loop : tie.MeasureT-loop
-μ-loop memo slot roots word from j₀ j = 92 - j
+μ-loop memo slot roots word from j₀ j = rootsLength - j
 
 mul-word : tie.Need-mul-word Inv-loop μ-loop
 mul-word c = search needs

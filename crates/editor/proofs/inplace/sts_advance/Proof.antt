@@ -44,7 +44,7 @@ use denote.Triple.Walked.{says, Stays, stay-ref, stay-none-slice, gave-slice, wa
 use denote.Triple.Clauses.{ensured, lasts}
 use denote.Exit.{yes}
 use Rattle.format.specs.File.{readCell}
-use Rattle.table.specs.Holds.{columns}
+use Rattle.diagram.specs.Call.{columns}
 use Rattle.advance.specs.declared.Task.the-variants.{Step}
 use Rattle.advance.specs.Task.{taskCall}
 use Rattle.record.specs.declared.Run.{Run}

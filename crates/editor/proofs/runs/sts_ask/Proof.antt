@@ -1,6 +1,6 @@
 -- `sts_ask`: the lengths of the record and of the answer first, then the question. Assumes nothing.
 use borrow.Author.Needs.{needs}
-use Rattle.table.specs.Holds.{columns}
+use Rattle.diagram.specs.Call.{columns}
 use Rattle.editor.proofs.Course.{ask-other-length, ask-other-told, ask-lengths, ask-buffer, ask-done}
 use Rattle.editor.proofs.runs.sts_ask.Statement.{statement}
 use Rattle.editor.proofs.runs.sts_ask.Tie as tie

@@ -1,6 +1,6 @@
 -- `task_on`: the length of the record first, then the task on the file. Assumes nothing.
 use borrow.Author.Needs.{needs}
-use Rattle.table.specs.Holds.{columns}
+use Rattle.diagram.specs.Call.{columns}
 use Rattle.editor.proofs.Course.{other-length, fifty, task-buffer, task-done}
 use Rattle.editor.proofs.runs.task_on.Statement.{statement}
 use Rattle.editor.proofs.runs.task_on.Tie as tie

@@ -4,8 +4,8 @@ use Rattle.editor.proofs.Handed.{stored-call}
 use Rattle.editor.proofs.tables.sts_choose.Statement.{statement}
 use Rattle.editor.proofs.tables.sts_choose.Tie as tie
 
-choose-call-requires : tie.Need-choose-call-requires
-choose-call-requires c κs = search needs
+store-requires : tie.Need-store-requires
+store-requires c κs = search needs
 
 give-stored-requires : tie.Need-give-stored-requires
 give-stored-requires c κs = search needs
@@ -20,13 +20,13 @@ same-length-3 : tie.Need-same-length-3
 same-length-3 c = search needs
 
 returns : tie.Need-returns
-returns c = stored-call _ _ _ (c .before .before .before .before .before .before .before .before .before .choose-call .ensures) (c .give-stored .ensures)
+returns c = stored-call _ _ _ (c .before .before .before .before .before .before .before .before .before .store .ensures) (c .give-stored .ensures)
 
 pub sts-choose-spec : {M : Type 1} → statement M
 sts-choose-spec =
     tie.close
     (tie.spec
-    choose-call-requires
+    store-requires
     give-stored-requires
     same-length
     same-length-2

@@ -4,14 +4,14 @@ use Rattle.editor.proofs.Handed.{told-call}
 use Rattle.editor.proofs.tables.sts_count.Statement.{statement}
 use Rattle.editor.proofs.tables.sts_count.Tie as tie
 
-count-call-requires : tie.Need-count-call-requires
-count-call-requires c κs = search needs
+tell-requires : tie.Need-tell-requires
+tell-requires c κs = search needs
 
 give-number-requires : tie.Need-give-number-requires
 give-number-requires c κs = search needs
 
 returns : tie.Need-returns
-returns c = told-call _ _ (c .before .before .count-call .ensures) (c .give-number .ensures)
+returns c = told-call _ _ (c .before .before .tell .ensures) (c .give-number .ensures)
 
 pub sts-count-spec : {M : Type 1} → statement M
-sts-count-spec = tie.close (tie.spec count-call-requires give-number-requires returns)
+sts-count-spec = tie.close (tie.spec tell-requires give-number-requires returns)

@@ -4,14 +4,14 @@ use Rattle.editor.proofs.Handed.{told-call}
 use Rattle.editor.proofs.tables.sts_number.Statement.{statement}
 use Rattle.editor.proofs.tables.sts_number.Tie as tie
 
-number-call-requires : tie.Need-number-call-requires
-number-call-requires c κs = search needs
+tell-requires : tie.Need-tell-requires
+tell-requires c κs = search needs
 
 give-number-requires : tie.Need-give-number-requires
 give-number-requires c κs = search needs
 
 returns : tie.Need-returns
-returns c = told-call _ _ (c .before .before .number-call .ensures) (c .give-number .ensures)
+returns c = told-call _ _ (c .before .before .tell .ensures) (c .give-number .ensures)
 
 pub sts-number-spec : {M : Type 1} → statement M
-sts-number-spec = tie.close (tie.spec number-call-requires give-number-requires returns)
+sts-number-spec = tie.close (tie.spec tell-requires give-number-requires returns)

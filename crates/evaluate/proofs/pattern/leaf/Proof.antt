@@ -9,11 +9,11 @@ leaf-numbers-requires c κs =
     let z = c .before .before .before .before .before .before in
     evaluable-entries (z .pre .1) (z .pre .2) _ (z .pre .1 .legible .low-long)
 
-slice-aggregate-change : tie.Need-slice-aggregate-change
-slice-aggregate-change c = search needs
+slice-aggregate-by-numbers : tie.Need-slice-aggregate-by-numbers
+slice-aggregate-by-numbers c = search needs
 
-change-requires : tie.Need-change-requires
-change-requires c κs =
+by-numbers-requires : tie.Need-by-numbers-requires
+by-numbers-requires c κs =
     let z = c .before .before .before .before .before .before .before .before in
     (z .pre .0, leaf-numbers-are (z .pre .1) (z .pre .2) (c .before .leaf-numbers .ensures))
 
@@ -35,15 +35,15 @@ same-length-4 c = search needs
 returns : tie.Need-returns
 returns c =
     let z = c .before .before .before .before .before .before .before .before .before .before .before .before .before .before .before .before .before .before .before .before .before .before in
-    leaf-stored (z .pre .1) (z .pre .2) (c .before .before .before .before .before .before .before .before .before .before .before .before .before .before .before .leaf-numbers .ensures) _ _ _ _ _ (c .before .before .before .before .before .before .before .before .before .before .before .before .before .change .ensures) (c .before .before .before .before .before .before .before .before .add .ensures)
+    leaf-stored (z .pre .1) (z .pre .2) (c .before .before .before .before .before .before .before .before .before .before .before .before .before .before .before .leaf-numbers .ensures) _ _ _ _ _ (c .before .before .before .before .before .before .before .before .before .before .before .before .before .by-numbers .ensures) (c .before .before .before .before .before .before .before .before .add .ensures)
 
 pub leaf-spec : {M : Type 1} → statement M
 leaf-spec =
     tie.close
     (tie.spec
     leaf-numbers-requires
-    slice-aggregate-change
-    change-requires
+    slice-aggregate-by-numbers
+    by-numbers-requires
     add-requires
     same-length
     same-length-2

@@ -6,6 +6,7 @@ use mathlib.Core.Path.{_≡_, sym, _∙_, subst}
 use lib.ListN.{length, getD}
 use Rattle.net.specs.Net.{netCircuit}
 use Rattle.net.proofs.Laying.{nodes-length, transistors-length, transistor-at}
+use Rattle.net.specs.Roots.{leafLength}
 use Rattle.plain.specs.Leaves.{KeptTo, OneKept}
 use Rattle.plain.proofs.Values.{wired}
 use Rattle.plain.proofs.Leaves.{kept-none, kept-more}
@@ -15,7 +16,7 @@ use Rattle.plain.proofs.keep.keep_all.Statement.{statement}
 use Rattle.plain.proofs.keep.keep_all.Tie as tie
 
 abbrev Inv-loop : tie.InvT-loop
-Inv-loop net values leaf₀ labels₀ count i₀ leaf labels i = (i ≤ count) × (count ≤ 64) × (length leaf ≡ 90) × (length labels ≡ 26) × KeptTo (netCircuit net) values i leaf₀ leaf labels
+Inv-loop net values leaf₀ labels₀ count i₀ leaf labels i = (i ≤ count) × (count ≤ 64) × (length leaf ≡ leafLength) × (length labels ≡ 26) × KeptTo (netCircuit net) values i leaf₀ leaf labels
 
 abbrev μ-loop : tie.MeasureT-loop
 μ-loop net values leaf₀ labels₀ count i₀ leaf labels i = count - i

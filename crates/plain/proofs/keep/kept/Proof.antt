@@ -6,6 +6,7 @@ use Rattle.plain.proofs.Leaves.{own-labels, leaf-kept}
 use borrow.Author.Needs.{needs}
 use Rattle.plain.proofs.keep.kept.Statement.{statement}
 use Rattle.plain.proofs.keep.kept.Tie as tie
+use Rattle.net.specs.Roots.{leafLength}
 
 slice-aggregate-copy : tie.Need-slice-aggregate-copy
 slice-aggregate-copy c = search needs
@@ -30,7 +31,7 @@ keep-all-requires c κs =
     let s = c .before .before .before .before .before .before .before .before .before .before in
     let copy = c .before .before .before .before .before .before .copy in
     let start = c .before .before .before .start in
-    (s .pre .0, (s .pre .1, copy .ensures .rest .long ∙ length-replicate {A = ℕ} 90 0, start .ensures .rest .long ∙ length-replicate {A = ℕ} 26 0, own-labels (replicate 26 0) (start .last .0) (start .ensures)))
+    (s .pre .0, (s .pre .1, copy .ensures .rest .long ∙ length-replicate {A = ℕ} leafLength 0, start .ensures .rest .long ∙ length-replicate {A = ℕ} 26 0, own-labels (replicate 26 0) (start .last .0) (start .ensures)))
 
 returns : tie.Need-returns
 returns c =

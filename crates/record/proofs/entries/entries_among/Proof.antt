@@ -7,7 +7,8 @@ use native.Mathlib.Omega.{arith}
 use lib.ListN.{getD}
 use borrow.Author.Tests.{not-true, not-false}
 use Rattle.lists.specs.Tests.{below}
-use Rattle.record.specs.Numbers.{held, entryAmong}
+use Rattle.diagram.specs.Held.{held}
+use Rattle.record.specs.Numbers.{entryAmong}
 use Rattle.record.proofs.Loops.{loop-starts, loop-fails, loop-next, loop-ends}
 use Rattle.record.proofs.entries.entries_among.Statement.{statement}
 use Rattle.record.proofs.entries.entries_among.Tie as tie

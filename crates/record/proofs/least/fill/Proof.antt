@@ -4,7 +4,7 @@ use Prim.Native.Nat.{_≤_, _-_}
 use mathlib.Core.Path.{_≡_, refl}
 use native.Mathlib.Omega.{arith}
 use lib.ListN.{length, length-set}
-use Rattle.record.specs.Numbers.{held}
+use Rattle.diagram.specs.Held.{held}
 use Rattle.record.specs.Leasts.{Leasts}
 use Rattle.record.proofs.Leasts.{leasts-next}
 use Rattle.record.proofs.least.fill.Statement.{statement}

@@ -1,8 +1,9 @@
 -- `places::scheduled_after` meets its contract. The loop's invariant: the earliest time so far. Assumes nothing.
 use borrow.Author.Needs.{needs}
 use Prim.Native.Nat.{_+_, _≤_, _-_}
-use mathlib.Core.Path.{_≡_, sym}
+use mathlib.Core.Path.{_≡_, sym, _∙_, ap}
 use native.Mathlib.Omega.{arith}
+use Rattle.units.specs.declared.Picoseconds.{Picoseconds}
 use Rattle.rules.specs.Run.{leastBelow}
 use Rattle.net.specs.Net.{timePlace, at}
 use Rattle.record.specs.Numbers.{afterNow}
@@ -25,17 +26,11 @@ cast-n c = search needs
 loop-holds : tie.Need-loop-holds Inv-loop μ-loop
 loop-holds c = (omega arith, sym (least-none _))
 
-add-after-now : tie.Need-add-after-now Inv-loop μ-loop
-add-after-now c = omega arith
-
-mul-after-now : tie.Need-mul-after-now Inv-loop μ-loop
-mul-after-now c = search needs
-
-shared-slice-read-after-now : tie.Need-shared-slice-read-after-now Inv-loop μ-loop
-shared-slice-read-after-now c = omega arith
+entry-time-requires : tie.Need-entry-time-requires Inv-loop μ-loop
+entry-time-requires c κs = (c .before .before .before .before .pre, c .loop-test .taken)
 
 after-now-requires : tie.Need-after-now-requires Inv-loop μ-loop
-after-now-requires c κs = search needs
+after-now-requires c κs = omega (arith, c .entry-time .ensures .1)
 
 least-requires : tie.Need-least-requires Inv-loop μ-loop
 least-requires c κs = search needs
@@ -47,7 +42,12 @@ loop-less : tie.Need-loop-less Inv-loop μ-loop
 loop-less c = search needs
 
 loop-again : tie.Need-loop-again Inv-loop μ-loop
-loop-again c = (omega arith, least-loop _ _ (c .before .before .before .before .loop .inv .1) (c .before .after-now .ensures) (c .least .ensures))
+loop-again c =
+    let now = c .before .before .before .before .before .before .before .args .present in (
+      omega arith,
+      least-loop _ _ (c .before .before .before .before .loop .inv .1)
+          (c .before .after-now .ensures ∙ ap (λ (t : Picoseconds). afterNow now (t .0)) (c .before .before .entry-time .ensures .0)) (c .least .ensures),
+    )
 
 returns : tie.Need-returns Inv-loop μ-loop
 returns c = least-ends _ _ (c .before .loop .i) (omega arith) (c .before .loop .inv .1)
@@ -61,9 +61,7 @@ scheduled-after-spec =
     shared-slice-read-n
     cast-n
     loop-holds
-    add-after-now
-    mul-after-now
-    shared-slice-read-after-now
+    entry-time-requires
     after-now-requires
     least-requires
     add-i

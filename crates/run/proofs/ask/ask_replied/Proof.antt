@@ -3,7 +3,7 @@ use borrow.Author.Needs.{needs}
 use mathlib.Core.Path.{sym, _∙_}
 use borrow.Author.Tests.{not-true, not-false}
 use Rattle.refusal.specs.Answer.{refused}
-use Rattle.table.specs.Holds.{columns}
+use Rattle.diagram.specs.Call.{columns}
 use Rattle.advance.specs.Task.{runIn}
 use Rattle.cell.specs.Value.{cellBy}
 use Rattle.run.proofs.Questions.{asked-buffer, asked-cell}

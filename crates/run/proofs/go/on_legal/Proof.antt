@@ -3,7 +3,7 @@ use borrow.Author.Needs.{needs}
 use mathlib.Core.Path.{sym}
 use native.Mathlib.Omega.{arith}
 use Rattle.diagram.proofs.Columns.{lengths-record}
-use Rattle.table.specs.Holds.{columns}
+use Rattle.diagram.specs.Call.{columns}
 use Rattle.table.proofs.Entering.{part-long, part-ready}
 use Rattle.net.proofs.Laying.{laid-own}
 use Rattle.run.proofs.Ends.{working-lengths, zeroed-all, done-went}

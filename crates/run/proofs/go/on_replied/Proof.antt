@@ -2,7 +2,7 @@
 use borrow.Author.Needs.{needs}
 use mathlib.Core.Path.{refl}
 use borrow.Author.Tests.{not-true, not-false}
-use Rattle.table.specs.Holds.{columns}
+use Rattle.diagram.specs.Call.{columns}
 use Rattle.cell.specs.Value.{cellBy}
 use Rattle.run.proofs.Ends.{both-legal, zeroed-all, done-buffer, replied-refused}
 use Rattle.run.proofs.go.on_replied.Statement.{statement}

@@ -1,4 +1,5 @@
 -- `sources` meets its contract: record after record. Assumes nothing.
+use mathlib.Core.Path.{sym, _∙_}
 use borrow.Author.Needs.{needs}
 use Prim.Native.Nat.{ℕ, _-_}
 use lib.ListN.{length}
@@ -45,43 +46,46 @@ source-requires c κs =
     let l = c .before .before .before .before .before .before .loop in
     (storing-open (l .inv), s .pre .0 .within .node (l .i) (c .before .before .before .before .before .loop-test .taken) .source)
 
+stopped-requires : tie.Need-stopped-requires Inv-loop μ-loop
+stopped-requires c κs = search needs
+
 same-length : tie.Need-same-length Inv-loop μ-loop
-same-length c = omega (arith, c .before .before .before .before .before .before .before .before .before .before .before .before .before .before .before .before .loop .inv .letter-long, c .before .before .before .before .before .before .before .before .before .source .kept .0)
+same-length c = omega (arith, c .before .before .before .before .before .before .before .before .before .before .before .before .before .before .before .before .before .loop .inv .letter-long, c .before .before .before .before .before .before .before .before .before .before .source .kept .0)
 
 same-length-2 : tie.Need-same-length-2 Inv-loop μ-loop
-same-length-2 c = omega (arith, c .before .before .before .before .before .before .before .before .before .before .before .before .before .before .before .before .loop .inv .low-long, c .before .before .before .before .before .before .before .before .before .source .kept .1 .0)
+same-length-2 c = omega (arith, c .before .before .before .before .before .before .before .before .before .before .before .before .before .before .before .before .before .loop .inv .low-long, c .before .before .before .before .before .before .before .before .before .before .source .kept .1 .0)
 
 same-length-3 : tie.Need-same-length-3 Inv-loop μ-loop
-same-length-3 c = omega (arith, c .before .before .before .before .before .before .before .before .before .before .before .before .before .before .before .before .loop .inv .high-long, c .before .before .before .before .before .before .before .before .before .source .kept .1 .1 .0)
+same-length-3 c = omega (arith, c .before .before .before .before .before .before .before .before .before .before .before .before .before .before .before .before .before .loop .inv .high-long, c .before .before .before .before .before .before .before .before .before .before .source .kept .1 .1 .0)
 
 same-length-4 : tie.Need-same-length-4 Inv-loop μ-loop
-same-length-4 c = omega (arith, c .before .before .before .before .before .before .before .before .before .before .before .before .before .before .before .before .loop .inv .index-long, c .before .before .before .before .before .before .before .before .before .source .kept .1 .1 .1 .0)
+same-length-4 c = omega (arith, c .before .before .before .before .before .before .before .before .before .before .before .before .before .before .before .before .before .loop .inv .index-long, c .before .before .before .before .before .before .before .before .before .before .source .kept .1 .1 .1 .0)
 
 returns : tie.Need-returns Inv-loop μ-loop
 returns c =
-    let s = c .before .before .before .before .before .before .before .before .before .before .before .before .before .before .before .before .before .before .before .before .before .before .before .before in
-    let l = c .before .before .before .before .before .before .before .before .before .before .before .before .before .before .before .before .loop in
+    let s = c .before .before .before .before .before .before .before .before .before .before .before .before .before .before .before .before .before .before .before .before .before .before .before .before .before in
+    let l = c .before .before .before .before .before .before .before .before .before .before .before .before .before .before .before .before .before .loop in
     let net = s .args .net .now in
-    storing-stop (l .inv) _ (c .before .before .before .before .before .before .before .before .before .source .ensures) (λ p h. start-same net (l .i) p (c .before .before .before .before .before .before .before .before .before .before .before .before .before .before .before .loop-test .taken)) (c .if1 .taken) (omega (arith, nodes-length net, c .before .before .before .before .before .before .before .before .before .before .before .before .before .before .before .loop-test .taken)) _ _
+    storing-stop (l .inv) _ (c .before .before .before .before .before .before .before .before .before .before .source .ensures) (λ p h. start-same net (l .i) p (c .before .before .before .before .before .before .before .before .before .before .before .before .before .before .before .before .loop-test .taken)) (sym (c .before .stopped .ensures) ∙ c .if1 .taken) (omega (arith, nodes-length net, c .before .before .before .before .before .before .before .before .before .before .before .before .before .before .before .before .loop-test .taken)) _ _
 
 mul-out : tie.Need-mul-out Inv-loop μ-loop
 mul-out c = search needs
 
 array-write-out : tie.Need-array-write-out Inv-loop μ-loop
-array-write-out c = omega (arith, c .before .before .before .before .before .before .before .before .before .before .before .before .before .before .before .before .before .before .before .before .before .before .before .before .pre .0 .within .nodes, c .before .before .before .before .before .before .before .before .before .before .before .before .before .before .before .loop-test .taken)
+array-write-out c = omega (arith, c .before .before .before .before .before .before .before .before .before .before .before .before .before .before .before .before .before .before .before .before .before .before .before .before .before .pre .0 .within .nodes, c .before .before .before .before .before .before .before .before .before .before .before .before .before .before .before .before .loop-test .taken)
 
 add-i : tie.Need-add-i Inv-loop μ-loop
 add-i c = omega arith
 
 loop-less : tie.Need-loop-less Inv-loop μ-loop
-loop-less c = omega (arith, c .before .before .before .before .before .before .before .before .before .before .before .before .before .before .before .loop-test .taken)
+loop-less c = omega (arith, c .before .before .before .before .before .before .before .before .before .before .before .before .before .before .before .before .loop-test .taken)
 
 loop-again : tie.Need-loop-again Inv-loop μ-loop
 loop-again c =
-    let s = c .before .before .before .before .before .before .before .before .before .before .before .before .before .before .before .before .before .before .before .before .before .before .before .before in
-    let l = c .before .before .before .before .before .before .before .before .before .before .before .before .before .before .before .before .loop in
+    let s = c .before .before .before .before .before .before .before .before .before .before .before .before .before .before .before .before .before .before .before .before .before .before .before .before .before in
+    let l = c .before .before .before .before .before .before .before .before .before .before .before .before .before .before .before .before .before .loop in
     let net = s .args .net .now in
-    storing-next (l .inv) _ (c .before .before .before .before .before .before .before .before .before .source .ensures) (λ p h. start-same net (l .i) p (c .before .before .before .before .before .before .before .before .before .before .before .before .before .before .before .loop-test .taken)) (c .if1 .left) (omega (arith, nodes-length net, c .before .before .before .before .before .before .before .before .before .before .before .before .before .before .before .loop-test .taken)) (omega (arith, nodes-length net, s .pre .0 .within .nodes)) (c .before .before .before .before .before .before .before .before .before .source .kept .0) (c .before .before .before .before .before .before .before .before .before .source .kept .1 .0) (c .before .before .before .before .before .before .before .before .before .source .kept .1 .1 .0) (c .before .before .before .before .before .before .before .before .before .source .kept .1 .1 .1 .0)
+    storing-next (l .inv) _ (c .before .before .before .before .before .before .before .before .before .before .source .ensures) (λ p h. start-same net (l .i) p (c .before .before .before .before .before .before .before .before .before .before .before .before .before .before .before .before .loop-test .taken)) (sym (c .before .stopped .ensures) ∙ c .if1 .left) (omega (arith, nodes-length net, c .before .before .before .before .before .before .before .before .before .before .before .before .before .before .before .before .loop-test .taken)) (omega (arith, nodes-length net, s .pre .0 .within .nodes)) (c .before .before .before .before .before .before .before .before .before .before .source .kept .0) (c .before .before .before .before .before .before .before .before .before .before .source .kept .1 .0) (c .before .before .before .before .before .before .before .before .before .before .source .kept .1 .1 .0) (c .before .before .before .before .before .before .before .before .before .before .source .kept .1 .1 .1 .0)
 
 same-length-5 : tie.Need-same-length-5 Inv-loop μ-loop
 same-length-5 c = omega (arith, c .before .loop .inv .letter-long)
@@ -112,6 +116,7 @@ sources-spec =
     mul-source
     shared-slice-read-source
     source-requires
+    stopped-requires
     same-length
     same-length-2
     same-length-3

@@ -1,0 +1,63 @@
+-- The next change of a node of a leaf, by its cases, and that its delay fits 55 bits.
+use mathlib.Core.Path.{_≡_, refl, ap₂}
+use mathlib.Core.Bool.{cond}
+use mathlib.Core.Option.{none}
+use mathlib.Core.List.{List}
+use Prim.Native.Nat.{ℕ, _+_, _^_, _<_, min}
+use native.Mathlib.Omega.{arith}
+use lib.ListN.{length, getD}
+use lib.Dec.{leb}
+use borrow.Author.Tests.{eq-eqb, ne-eqb}
+use Rattle.units.proofs.Laws.{at-most-weaken, delay-within}
+use Rattle.rules.specs.State.{valueAt}
+use Rattle.rules.specs.Sum.{newValue}
+use Rattle.rules.specs.Step.{target, delayTo, nextChange}
+use Rattle.rules.proofs.Range.{load-at-most}
+use Rattle.net.specs.Net.{nodesPlace, horizonPlace, at, netCircuit}
+use Rattle.net.proofs.Laying.{nodes-length, horizon-at}
+use Rattle.plain.specs.Leaf.{leafChannels, leafState, leafSum, leafLoad, leafTarget, leafDelay, leafChange}
+use Rattle.plain.specs.Ready.{Ready, Noded}
+use Rattle.plain.proofs.Cell.{leaf-value, leaf-change}
+use Rattle.plain.proofs.Arms.{leaf-resistive}
+use Rattle.plain.proofs.Charge.{load-small}
+use Rattle.plain.proofs.Same.{same-target, same-delay}
+use Rattle.plain.proofs.Walks.{value-here}
+
+module _ (net leaf : List ℕ) (h : Ready net leaf) (n : ℕ) (l : n < 2 + at net nodesPlace) where
+  -- the allowance is one for each node record
+  pub target-sum : leafTarget net leaf n ≡ newValue (leafSum net leaf (at net nodesPlace) none n) (getD leaf n 0)
+  unfolding target
+  target-sum = ap₂ (λ (a value : ℕ). newValue (leafSum net leaf a none n) value) (nodes-length net) (value-here net leaf h n l)
+
+  pub delay-small : (new : ℕ) → leafDelay net leaf new n < 2 ^ 55
+  unfolding delayTo
+  delay-small new =
+      let load = leafLoad net leaf (length (netCircuit net .nodes)) new none n in
+      let small = load-small _ _ _ (h .charges) none n (omega (arith, nodes-length net)) (length (netCircuit net .nodes)) new in
+      delay-within (load .resistance) (load .charge)
+      (at-most-weaken (load .resistance) (omega arith) (load-at-most _ _ _ (leaf-resistive net (h .cell) leaf) (length (netCircuit net .nodes)) new none n))
+      (omega (arith, small))
+
+module _ (net leaf : List ℕ) (h : Ready net leaf) (n : ℕ) (k : Noded net n) (time pending : ℕ) where
+  value-pending : valueAt (leafState (netCircuit net) pending leaf) n ≡ getD leaf n 0
+  value-pending = leaf-value (netCircuit net) leaf pending (h .numbers) n (omega (arith, nodes-length net, k .most))
+
+  -- a node that goes to its own value has no next change
+  pub next-keeps : leafTarget net leaf n ≡ getD leaf n 0 → leafChange net leaf time pending n ≡ 4294967295
+  unfolding nextChange
+  next-keeps e = rw (same-target (netCircuit net) (leafState (netCircuit net) pending leaf) (leafState (netCircuit net) 0 leaf) (leafChannels (netCircuit net) leaf) refl n, value-pending, eq-eqb _ _ e)
+
+  -- any other changes at the earlier of its pending time and T + delay, up to the horizon
+  pub next-moves : (leafTarget net leaf n ≡ getD leaf n 0 → ⊥)
+      → let first = min pending (time + leafDelay net leaf (leafTarget net leaf n) n) in
+      leafChange net leaf time pending n ≡ cond (leb first (at net horizonPlace)) first 4294967295
+  unfolding nextChange
+  next-moves e =
+      rw (
+        same-target (netCircuit net) (leafState (netCircuit net) pending leaf) (leafState (netCircuit net) 0 leaf) (leafChannels (netCircuit net) leaf) refl n,
+        value-pending,
+        ne-eqb _ _ e,
+        same-delay (netCircuit net) (leafState (netCircuit net) pending leaf) (leafState (netCircuit net) 0 leaf) (leafChannels (netCircuit net) leaf) refl (leafTarget net leaf n) n,
+        leaf-change (netCircuit net) leaf pending n (k .least) (omega (arith, nodes-length net, k .most)),
+        horizon-at net,
+      )

@@ -1,0 +1,43 @@
+-- The next change of a node between two states of a pattern: before T, and once all of T has happened.
+use Prim.Native.Nat.{ℕ, _+_, _≤_, _<_}
+use mathlib.Core.List.{List}
+use mathlib.Core.Bool.{Bool, cond}
+use mathlib.Core.Path.{_≡_}
+use lib.ListN.{getD}
+use lib.Dec.{eqb}
+use Rattle.format.specs.Circuit.{Circuit, firstNodeNumber}
+use Rattle.diagram.specs.Table.{never}
+use Rattle.rules.specs.State.{State, changeAt, isInner}
+use Rattle.rules.specs.Group.{reconsidered}
+use Rattle.rules.specs.Kept.{kept}
+use Rattle.rules.specs.Step.{nextChange}
+use Rattle.net.specs.Net.{nodesPlace, at, netCircuit}
+use Rattle.net.specs.Laid.{Laid}
+use Rattle.plain.specs.Ready.{Noded}
+use Rattle.plain.specs.Shown.{Column, Shows}
+
+-- the pending change once T has happened: a node whose change was T has flipped, and has none
+abbrev pub pendingAfter : ℕ → ℕ → ℕ
+pendingAfter time pending = cond (eqb pending time) never pending
+
+-- whether node n is reconsidered; where `all`, every inner node is
+abbrev pub considers : Circuit → Bool → State → State → ℕ → Bool
+considers c all before after n = cond all (isInner c n) (reconsidered c before after n)
+
+-- rules 2 to 7: the next change of node n
+abbrev pub changeBetween : Circuit → ℕ → Bool → State → State → ℕ → ℕ
+changeBetween c time all before after n =
+    cond (considers c all before after n) (nextChange c time after (kept c after) n) (changeAt after n)
+
+-- a legal cell laid out, and the values of its nodes before and after T
+pub record Between (net old new : List ℕ) : Type 0 where
+  pub cell : Laid (netCircuit net) net
+  pub before : Column old
+  pub after : Column new
+  pub bits : (n : ℕ) → n < firstNodeNumber + at net nodesPlace → getD new n 0 ≤ 1
+
+-- states with these values, and with these pending changes once T has happened
+pub record Showing (net : List ℕ) (time : ℕ) (old new changes : List ℕ) (s t : State) : Type 0 where
+  pub before : Shows (netCircuit net) old s
+  pub after : Shows (netCircuit net) new t
+  pub pending : (n : ℕ) → Noded net n → changeAt t n ≡ pendingAfter time (getD changes n 0)

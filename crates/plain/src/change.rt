@@ -1,0 +1,134 @@
+// Step rules 5 to 7: the new value of a node, and its next change.
+use crate::Sum;
+use crate::loads::node_load;
+use crate::reads::NONE;
+use crate::reads::read;
+use crate::sums::node_sum;
+use net::NODES;
+use net::quantities::horizon;
+use units::Picoseconds;
+use units::Resistance;
+use units::delay;
+ghost use mathlib.Core.Path.{_≡_};
+ghost use mathlib.Core.Bool.{cond};
+ghost use Prim.Native.Nat.{_+_, _<_, _^_, min};
+ghost use lib.Dec.{leb};
+ghost use lib.ListN.{getD};
+ghost use Rattle.diagram.specs.Table.{never};
+ghost use Rattle.rules.specs.Sum.{infinite as infiniteOf, less as lessOf, decided as decidedOf, newValue};
+ghost use Rattle.net.specs.Net.{nodesPlace};
+ghost use Rattle.plain.specs.Leaf.{sumOf, leafTarget, leafDelay, leafChange};
+ghost use Rattle.plain.specs.Ready.{Noded, Ready};
+
+// No next change.
+pub const NEVER: u32 = 4294967295;
+
+fn infinite(r: Resistance) -> bool
+    ensures { λ b. ⌜ b ≡ infiniteOf r ⌝ }
+{
+    match r {
+        Resistance::Infinite => true,
+        Resistance::Finite(_) => false,
+    }
+}
+
+fn less(a: Resistance, b: Resistance) -> bool
+    ensures { λ r. ⌜ r ≡ lessOf a b ⌝ }
+{
+    match a {
+        Resistance::Infinite => false,
+        Resistance::Finite(x) => match b {
+            Resistance::Infinite => true,
+            Resistance::Finite(y) => x.0 < y.0,
+        },
+    }
+}
+
+fn decided(up: bool, down: bool, present: u32) -> u32
+    ensures { λ r. ⌜ r ≡ decidedOf up down present ⌝ }
+{
+    if up {
+        return 1;
+    }
+    if down {
+        return 0;
+    }
+    present
+}
+
+// The new value of a node with this sum.
+pub fn new_value(sum: Sum, present: u32) -> u32
+    ensures { λ r. ⌜ r ≡ newValue (sumOf sum) present ⌝ }
+{
+    let high = sum.high;
+    let low = sum.low;
+    if infinite(high) {
+        if infinite(low) {
+            let raised = sum.raised;
+            let lowered = sum.lowered;
+            return decided(lowered.0 < raised.0, raised.0 < lowered.0, present);
+        }
+    }
+    decided(less(high, low), less(low, high), present)
+}
+
+// The value that node n goes to.
+pub fn target_of(net: &[u32], leaf: &[u32], n: u32) -> u32
+    requires { ⌜ Ready (now net) (now leaf) ⌝ }
+    requires { ⌜ n < 2 + getD (now net) nodesPlace 0 ⌝ }
+    ensures { λ r. ⌜ r ≡ leafTarget (now (net .entry)) (now (leaf .entry)) n ⌝ }
+{
+    let nodes = read(net, NODES);
+    let present = read(leaf, n as usize);
+    let sum = node_sum(net, leaf, nodes, NONE, n);
+    new_value(sum, present)
+}
+
+// The delay of node n to a new value. It may need more than 32 bits.
+pub fn delay_to(net: &[u32], leaf: &[u32], new: u32, n: u32) -> Picoseconds
+    requires { ⌜ Ready (now net) (now leaf) ⌝ }
+    requires { ⌜ n < 2 + getD (now net) nodesPlace 0 ⌝ }
+    ensures { λ r. ⌜ (r .0 ≡ leafDelay (now (net .entry)) (now (leaf .entry)) new n) × (r .0 < 2 ^ 55) ⌝ }
+{
+    let nodes = read(net, NODES);
+    let load = node_load(net, leaf, nodes, new, NONE, n);
+    let resistance = load.resistance;
+    let charge = load.charge;
+    delay(resistance, charge)
+}
+
+// The earlier of two times where it is not past the horizon, else never.
+fn in_horizon(last: Picoseconds, pending: u32, at: Picoseconds) -> u32
+    requires { ⌜ last .0 < 2 ^ 32 ⌝ }
+    ensures { λ r. ⌜ r ≡ cond (leb (min pending (at .0)) (last .0)) (min pending (at .0)) never ⌝ }
+{
+    let first = pending as u64;
+    let most = last.0;
+    let then = at.0;
+    if first < then {
+        if first <= most {
+            return pending;
+        }
+        return NEVER;
+    }
+    if then <= most {
+        return then as u32;
+    }
+    NEVER
+}
+
+// The next change of node n, considered at a time, with its pending one.
+pub fn next_change(net: &[u32], leaf: &[u32], time: u32, pending: u32, n: u32) -> u32
+    requires { ⌜ Ready (now net) (now leaf) ⌝ }
+    requires { ⌜ Noded (now net) n ⌝ }
+    ensures { λ r. ⌜ r ≡ leafChange (now (net .entry)) (now (leaf .entry)) time pending n ⌝ }
+{
+    let new = target_of(net, leaf, n);
+    if new == read(leaf, n as usize) {
+        return NEVER;
+    }
+    let d = delay_to(net, leaf, new, n);
+    let last = horizon(net);
+    let at = Picoseconds(time as u64).later(d);
+    in_horizon(last, pending, at)
+}

@@ -1,9 +1,0 @@
-pub mod Cell
-pub mod Fold
-pub mod Arms
-pub mod Charge
-pub mod Same
-pub mod Turn
-pub mod Walks
-pub mod Next
-pub mod Meet
