@@ -32,13 +32,13 @@ pub record Left (answer : Answer Moment) (l w h ix : List ℕ) (r : Run) : Type 
   pub run-is : r ≡ recordOf (moment .run)
   pub holds : Holds l w h ix (moment .table) (r .used)
 
--- what a start, a step or a run of steps in the table t is to leave, and whether there was no room
+-- what a start, a step or a run of steps in the table t is to leave, and whether it stopped
 pub record Reached (t : Table) (answer : Answer Moment) (l w h ix : List ℕ) (stop : Stop) (r : Run) : Type 0 where
   pub over : stopped stop ≡ true → answer ≡ refused Full
   pub fits : stopped stop ≡ false → Left answer l w h ix r
   pub kept : Kept l w h (length l) t
 
--- the end of a task: the columns before and after it, the old used count and run, whether there was no room, the run that was
+-- the end of a task: the columns before and after it, the old used count and run, whether it stopped, the run that was
 -- reached, and what is replied
 pub record Closed (l w h l′ w′ h′ : List ℕ) (used : ℕ) (r : Run) (stop : Stop) (next : Run) (reply : Reply) (r′ : Run) : Type 0 where
   pub cleared : stopped stop ≡ true → columns l′ w′ h′ ≡ columns (zeroFrom used l) (zeroFrom used w) (zeroFrom used h)

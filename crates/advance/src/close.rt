@@ -39,7 +39,6 @@ pub fn closed(
                 run,
             }
         }
-        // A full table ended the task before every node was looked at: a reason that ranks before 6 is to be looked for here.
         Stop::Full => {
             clear(letter, low, high, used);
             refused(Refusal::Full, r)

@@ -1,5 +1,5 @@
 // The next changes of all nodes over all patterns, stored in node order (document 01, step rules 2 to 7).
-// Promise: what is stored is exactly `storeAll` of `changeOf` for every node; full where it does not fit.
+// Promise: what is stored is exactly `storeAll` of `changeOf` for every node; where it does not fit, that it stopped for want of room.
 // Internal to our crates: at rest the pending changes with T taken out; else by functions made once for all nodes that are not, in the first entries of working or in all of it, or node by node where it has no room.
 ghost use mathlib.Core.List.{map};
 ghost use Rattle.table.specs.Holds.{Sized};

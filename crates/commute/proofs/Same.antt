@@ -1,21 +1,19 @@
 -- Two runs that stand at one picosecond hold the same. Only times and states count: the runs may be in different tables.
-use mathlib.Core.Path.{_≡_, refl, sym, _∙_, ap}
+use mathlib.Core.Path.{_≡_, sym, _∙_, ap}
 use mathlib.Core.Logic.{⊎-elim}
 use Prim.Native.Nat.{ℕ, zero, suc, _≤_, _<_}
 use native.Mathlib.Omega.{arith}
-use lib.Pow.{pow-pos}
 use Rattle.lists.proofs.Cases.{lt-or-ge}
 use Rattle.format.specs.Circuit.{Circuit}
 use Rattle.diagram.specs.Pattern.{patterns}
 use Rattle.diagram.specs.Table.{never}
 use Rattle.rules.specs.Run.{Moment, timeAfter}
 use Rattle.rules.proofs.Step.{legal-horizon}
-use Rattle.rules.proofs.Time.{pattern-never, pattern-after, next-own, next-least}
-use Rattle.rules.proofs.Moment.{step-time}
+use Rattle.rules.proofs.Time.{pattern-never, pattern-after, next-least}
 use Rattle.commute.specs.Alone.{Alone, stepsAlone}
-use Rattle.commute.proofs.Trace.{Ground, Trace, begun, stepped, StandsAt, trace-sound}
+use Rattle.commute.proofs.Trace.{StandsAt, trace-sound}
 use Rattle.commute.proofs.Together.{stateAt}
-use Rattle.commute.proofs.Alone.{aloneAt, alone-is, reads-own, reads-alone}
+use Rattle.commute.proofs.Alone.{aloneAt, reads-own, reads-alone}
 
 module _ (c : Circuit) (p : ℕ) (a : Alone) (real : a .time ≤ never) where
   -- a time of a run alone is at most never
@@ -85,34 +83,3 @@ pub same-states : {c d : Circuit} {size size′ until : ℕ} {from from′ m m�
     → ((n : ℕ) → stepsAlone c p (aloneAt c from p) n ≡ stepsAlone d q (aloneAt d from′ q) n)
     → stateAt c m p ≡ stateAt d m′ q
 same-states s s′ p q hp hq same = last-same same (stands-last s p hp) (stands-last s′ q hq)
-
--- the time of a moment is one of some pattern's run alone
-time-alone : {c : Circuit} {size : ℕ} {from m : Moment} → Ground c size from → Trace c size from m
-    → (p : ℕ) × (p < patterns (c .letters)) × (n : ℕ) × (stepsAlone c p (aloneAt c from p) n .time ≡ m .run .time)
-unfolding stepsAlone timeAfter
-time-alone {c} g begun = (0, pow-pos (c .letters), 0, refl)
-time-alone {c} g (stepped {m = m} t more admitted) =
-    let own = next-own c (m .run .time) (stateAt c m) in
-    let x = reads-alone g t (own .0) (own .1) in
-    (own .0, own .1, suc (x .0), reads-own (x .1) ∙ sym (own .2) ∙ sym (step-time c m))
-
--- two runs of one cell that set out alike are alike: one time, and one state for each pattern
-pub stand-alike : {c : Circuit} {size size′ until : ℕ} {from from′ m m′ : Moment} → StandsAt c size from until m → StandsAt c size′ from′ until m′
-    → ((p : ℕ) → p < patterns (c .letters) → aloneAt c from p ≡ aloneAt c from′ p)
-    → (p : ℕ) → p < patterns (c .letters) → aloneAt c m p ≡ aloneAt c m′ p
-stand-alike {c} {until = until} s s′ alike p h =
-    let one = not-later s s′ alike in
-    let two = not-later s′ s (λ q l. sym (alike q l)) in
-    alone-is (omega arith) (same-states s s′ p p h h (λ n. ap (λ (a : Alone). stepsAlone c p a n) (alike p h)))
-  where
-    not-later : {i j : ℕ} {x y k l : Moment} → StandsAt c i x until k → StandsAt c j y until l
-        → ((q : ℕ) → q < patterns (c .letters) → aloneAt c x q ≡ aloneAt c y q) → k .run .time ≤ l .run .time
-    not-later {y = y} {k = k} u v same =
-        let own = time-alone (u .ground) (u .trace) in
-        let q : ℕ = own .0 in
-        let n : ℕ = own .2 in
-        let last = stands-last v q (own .1) in
-        let is : stepsAlone c q (aloneAt c y q) n .time ≡ k .run .time = ap (λ (a : Alone). stepsAlone c q a n .time) (sym (same q (own .1))) ∙ own .3 in
-        let horizon = legal-horizon (u .ground .legal) in
-        let few = last .last n (omega (arith, trace-sound (u .ground) (u .trace) .run .time-most)) (omega (arith, u .time)) in
-        omega (arith, last .behind, alone-later c q (aloneAt c y q) (omega (arith, v .ground .sound .run .time-most)) n (last .steps) few)

@@ -1,5 +1,5 @@
 // A start and a step over all patterns, in lent columns beside their index.
-// Promise: the run and the table afterwards are `startMoment` and `stepMoment` of the definitions; full where they do not fit.
+// Promise: the run and the table afterwards are `startMoment` and `stepMoment` of the definitions; where they do not fit, that it stopped for want of room.
 // Internal to our crates: a call refuses first, and shows what is required here.
 use changes::changes;
 use functions::numbers::NEVER;
@@ -24,7 +24,7 @@ ghost use Rattle.moment.specs.ByNode.{ByNode, Gathers};
 ghost use Rattle.moment.specs.Next.{NextAs};
 ghost use Rattle.diagram.specs.Held.{held};
 
-// The run after a start or a step, unless there was no room.
+// The run after a start or a step, unless it stopped.
 pub struct Next {
     pub stop: Stop,
     pub run: Run,
@@ -46,7 +46,8 @@ fn by_number(ground: u32, supply: u32, entries: [u32; 24], count: usize) -> [u32
     out
 }
 
-// No run, for a reason.
+// No run, for a reason. Where the table is full, a start or a step has ended before every node was looked at: a reason that ranks before 6
+// is to be looked for before this is answered, where the cell, the run and the table as they were, and T are at hand.
 fn nothing(stop: Stop) -> Next
     ensures { λ x. ⌜ x .stop ≡ stop ⌝ }
 {

@@ -1,4 +1,5 @@
-// A cell laid out flat in one column of numbers, with each node's arms listed and its group labelled, for the work of a step.
+// A cell laid out flat in one column of numbers, with each node's arms listed and its group labelled, for the work of a step; its fields
+// with a unit, what its schedule puts at a node, and the places of a step's functions.
 // Promise: the column of a legal cell lays out exactly that cell (`Laid`): its fields, each node's arms by rising number, its groups.
 // Internal to our crates: no call from outside sees it.
 mod arms;

@@ -25,7 +25,7 @@ use working::link::link;
 use working::opposite;
 use working::without;
 
-// The kept functions by transistor number, unless there was no room.
+// The kept functions by transistor number, unless working them out stopped.
 pub struct Kept {
     pub stop: Stop,
     pub used: u32,

@@ -33,7 +33,7 @@ use touch::touch_all;
 use working::begin;
 use working::many::bring_all;
 
-// The roots of a step in their places (net::roots), unless the working table had no room.
+// The roots of a step in their places (net::roots), unless working them out stopped.
 pub struct Prepared {
     pub stop: Stop,
     pub used: u32,

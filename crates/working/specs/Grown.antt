@@ -29,7 +29,7 @@ pub record Crowded (letters : ℕ) (t : Table) (l w h ix : List ℕ) : Type 0 wh
   pub opened : Open letters l w h ix (length l)
   pub extends : Extends t (held l w h (length l))
 
--- the columns hold a sound extension of the table t, in which the entry has the numbers of a function; or the answer is full
+-- the columns hold a sound extension of the table t, in which the entry has the numbers of a function; or it stopped
 pub record Grown (letters : ℕ) (t : Table) (f : ℕ → ℕ) (l w h ix : List ℕ) (r : Put) : Type 0 where
   pub opened : stopped (r .stop) ≡ false → Open letters l w h ix (r .used)
   pub extends : stopped (r .stop) ≡ false → Extends t (held l w h (r .used))

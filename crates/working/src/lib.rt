@@ -1,5 +1,5 @@
 // Functions of what touches and of what is kept, as entries of a second lent table.
-// Promise: an answer that is not full gives an entry with the numbers said, in a sound extension of the table; a full one comes only where
+// Promise: an answer that did not stop gives an entry with the numbers said, in a sound extension of the table; one that did comes only where
 // such an extension takes every row (specs/Grown.antt).
 ghost use mathlib.Core.Bool.{cond};
 ghost use Prim.Native.Nat.{_<_, _≤_};

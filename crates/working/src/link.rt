@@ -15,7 +15,7 @@ use table::Put;
 use table::Stop;
 use table::stopped;
 
-// A row of the matrix, unless there was no room.
+// A row of the matrix, unless working it out stopped.
 pub struct Row {
     pub stop: Stop,
     pub used: u32,

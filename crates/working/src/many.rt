@@ -17,7 +17,7 @@ use table::Put;
 use table::Stop;
 use table::stopped;
 
-// Entries by node number, unless there was no room.
+// Entries by node number, unless making them stopped.
 pub struct Many {
     pub stop: Stop,
     pub used: u32,
