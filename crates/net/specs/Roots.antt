@@ -2,10 +2,7 @@
 -- kept; then whether a node is touched, and its pending change: of one node, or of every node by number.
 use Prim.Native.Nat.{ℕ}
 
-abbrev pub valuesLength : ℕ
-valuesLength = 26
-
--- one for each of 64 transistors
+-- behind 26 values, one for each of 64 transistors
 abbrev pub keptPlace : ℕ
 keptPlace = 26
 
