@@ -1,11 +1,12 @@
 -- Clearing columns, and starting them anew.
 use mathlib.Core.Path.{_≡_, refl, sym, _∙_, ap}
 use mathlib.Core.Logic.{⊎-elim}
-use mathlib.Core.List.{List, [], _∷_, map}
+use mathlib.Core.List.{List, [], _∷_, _++_, map}
 use mathlib.Core.Bool.{true, false}
 use Prim.Native.Nat.{ℕ, _+_, _-_, _<_, _≤_}
+use native.Mathlib.Nat.{sub-zero}
 use native.Mathlib.Omega.{arith}
-use lib.ListN.{length, getD, set, take, replicate, length-append, length-take, length-replicate, length-set, length-map, List·getD-append}
+use lib.ListN.{length, getD, set, take, drop, replicate, length-append, length-take, length-drop, length-replicate, length-set, length-map, List·getD-append}
 use lib.Seq.{getD-set-same, getD-set-other, getD-take, getD-append-add, length-take-le, ext-getD}
 use Rattle.refusal.specs.declared.Reply.the-variants.{Done, Refused}
 use Rattle.refusal.specs.declared.Refusal.the-variants.{Buffer}
@@ -46,6 +47,33 @@ clearing-next {from} {n} {old} {new} c l =
           (eq-or-ne i n);
     }
 
+-- a piece more, wiped
+pub clearing-piece : {from n to : ℕ} {old new piece : List ℕ} → Clearing from n old new → n ≤ to → to ≤ length new → piece ≡ replicate (length (take (to - n) (drop n new))) 0
+    → Clearing from to old (take n new ++ (piece ++ drop (to - n) (drop n new)))
+clearing-piece {from} {n} {to} {old} {new} {piece} c on fits e =
+    let past : from ≤ n = c .passed in
+    let rest : List ℕ = drop (to - n) (drop n new) in
+    let front : length (take n new) ≡ n = length-take-le n new (omega arith) in
+    let left : length (drop n new) ≡ length new - n = length-drop n new in
+    let wide : length piece ≡ to - n = ap length e ∙ length-replicate (length (take (to - n) (drop n new))) 0 ∙ length-take-le (to - n) (drop n new) (omega arith) in
+    let early : (i : ℕ) → i < n → getD (take n new ++ (piece ++ rest)) i 0 ≡ getD new i 0 = λ i k. List·getD-append (take n new) (piece ++ rest) 0 i (omega arith) ∙ getD-take n new i 0 k in
+    record {
+      long = simp (length-append, front, wide, length-drop) (omega (arith, c .long));
+      passed = omega arith;
+      kept = λ i g. early i (omega arith) ∙ c .kept i g;
+      zeros = λ i g k.
+          ⊎-elim
+          (λ (s : i < n). early i s ∙ c .zeros i g s)
+          (λ (s : n ≤ i).
+          let place : i ≡ length (take n new) + (i - n) = omega arith in
+          ap (λ (j : ℕ). getD (take n new ++ (piece ++ rest)) j 0) place
+          ∙ getD-append-add (take n new) (piece ++ rest) (i - n) 0
+          ∙ List·getD-append piece rest 0 (i - n) (omega arith)
+          ∙ ap (λ (l : List ℕ). getD l (i - n) 0) e
+          ∙ replicate-read (length (take (to - n) (drop n new))) (i - n) 0)
+          (lt-or-ge i n);
+    }
+
 zeroFrom-length : (n : ℕ) (l : List ℕ) → length (zeroFrom n l) ≡ length l
 zeroFrom-length n l = simp (length-append, length-take, length-replicate) (omega arith)
 
@@ -65,6 +93,10 @@ clearing-all {from} {n} {old} {new} c end =
     c .zeros i g (omega arith)
     ∙ sym (ap (λ (j : ℕ). getD (zeroFrom from old) j 0) place ∙ getD-append-add (take from old) (replicate (length old - from) 0) (i - from) 0 ∙ replicate-read (length old - from) (i - from) 0))
     (lt-or-ge i from))
+
+-- all of it cleared
+pub clearing-whole : {n : ℕ} {old new : List ℕ} → Clearing 0 n old new → length new ≤ n → new ≡ replicate (length old) 0
+clearing-whole {old = old} c end = clearing-all c end ∙ ap (λ (k : ℕ). replicate k 0) (sub-zero (length old))
 
 -- columns in which a table still stands, cleared from its end on, are its columns
 module _ {l w h : List ℕ} {size : ℕ} {t : Table} (k : Kept l w h size t) where

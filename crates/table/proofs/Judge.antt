@@ -3,10 +3,10 @@ use mathlib.Core.Path.{_≡_, sym, _∙_, ap}
 use mathlib.Core.Logic.{⊎-elim}
 use mathlib.Core.List.{List}
 use mathlib.Core.Bool.{Bool, true, false, not, _&&_, cond, true≢false}
-use Prim.Native.Nat.{ℕ, _+_, _-_, _<_, _≤_}
+use Prim.Native.Nat.{ℕ, _+_, _<_, _≤_}
 use native.Mathlib.Omega.{arith}
-use lib.ListN.{length, getD, drop, length-drop}
-use lib.Seq.{getD-take, getD-drop}
+use lib.ListN.{length, getD, drop}
+use lib.Seq.{getD-take}
 use lib.Dec.{ltb, eqb}
 use borrow.Author.Tests.{lt-ltb, le-ltb, le-leb, lt-leb, eq-eqb, ne-eqb}
 use Rattle.lists.specs.Tests.{below}
@@ -15,8 +15,8 @@ use Rattle.lists.proofs.Below.{below-each, each-below}
 use Rattle.diagram.specs.Table.{Entry, Table, blank, terminalLetter, terminal, never, entryAt, same}
 use Rattle.diagram.specs.Sound.{partLegal, entryLegal, distinct, fixedTerminals, sound}
 use Rattle.diagram.specs.Held.{allBlank, entries, held, heldSound, highOf, letterOf, lowOf}
-use Rattle.diagram.proofs.Sound.{same-equal, same-differ, distinct-apart, apart-distinct}
-use Rattle.diagram.proofs.Held.{HeldSound, blank-each, each-blank, entries-at, entries-length, held-length, held-record, held-whole}
+use Rattle.diagram.proofs.Sound.{distinct-apart, apart-distinct}
+use Rattle.diagram.proofs.Held.{HeldSound, entries-at, held-length, held-record, held-whole}
 use Rattle.table.specs.Holds.{Sized, Ready, Judged}
 use Rattle.table.specs.Steps.{partIn, threeTerminals, entriesLegal, Entered, Filled}
 
@@ -155,38 +155,6 @@ module _ (letters : ℕ) (l w h : List ℕ) (used : ℕ) (p : length w ≡ lengt
       (lt-or-ge j i))
       (lt-or-ge i j)) in
       record { is = sym (and-both _ _ legal apart); ready = λ z. f .ready }
-
--- the rows from a place on, as far as a number, are blank
-pub record Blanks (t : Table) (from n : ℕ) : Type 0 where
-  pub passed : from ≤ n
-  pub each : (i : ℕ) → from ≤ i → i < n → entryAt t i ≡ blank
-
-pub blanks-none : (t : Table) (from : ℕ) → Blanks t from from
-blanks-none t from = record { passed = omega arith; each = λ i g l. absurd (omega arith) }
-
-pub blanks-next : {t : Table} {from n : ℕ} → Blanks t from n → same (entryAt t n) blank ≡ true → Blanks t from (n + 1)
-blanks-next {t} {from} {n} b e = record {
-  passed = omega (arith, b .passed);
-  each = λ i g l.
-      ⊎-elim
-      (λ (s : i < n). b .each i g s)
-      (λ (s : n ≤ i). let z : i ≡ n = omega arith in rw z (same-equal (entryAt t n) blank e))
-      (lt-or-ge i n);
-}
-
--- one that is not
-pub blanks-fail : (t : Table) (from i : ℕ) → from ≤ i → same (entryAt t i) blank ≡ false → false ≡ allBlank (drop from t)
-blanks-fail t from i g e =
-    refuted (allBlank (drop from t)) (λ all.
-    let there : i ≡ from + (i - from) = omega arith in
-    same-differ (entryAt t i) blank e (ap (entryAt t) there ∙ sym (getD-drop from t (i - from) blank) ∙ blank-each (drop from t) all (i - from)))
-
--- all are
-pub blanks-all : (l w h : List ℕ) (from n : ℕ) → length w ≡ length l → length h ≡ length l → Blanks (entries l w h) from n → length l ≤ n
-    → true ≡ allBlank (drop from (entries l w h))
-blanks-all l w h from n p q b g =
-    let t : Table = entries l w h in
-    sym (each-blank (drop from t) (λ i k. getD-drop from t i blank ∙ b .each (from + i) (omega arith) (omega (arith, length-drop from t, entries-length l w h p q))))
 
 -- the first three rows
 module _ (t : Table) where

@@ -6,4 +6,5 @@ pub mod Entering
 pub mod Stops
 pub mod Outcomes
 pub mod Judge
+pub mod Blanks
 pub mod Clearing

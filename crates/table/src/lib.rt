@@ -5,7 +5,7 @@
 ghost use mathlib.Core.Path.{_≡_};
 ghost use mathlib.Core.List.{[], _∷_};
 ghost use Prim.Native.Nat.{_+_, _/_, _<_, _≤_};
-ghost use lib.ListN.{length, drop};
+ghost use lib.ListN.{length, drop, replicate};
 ghost use Rattle.refusal.specs.Answer.{replyOf};
 ghost use Rattle.lists.specs.Padded.{padded};
 ghost use Rattle.diagram.specs.Table.{branch, entryAt, same};
@@ -286,19 +286,18 @@ fn three_terminals(letter: &[u32], low: &[u32], high: &[u32]) -> bool
     is_entry(letter, low, high, 2, 4294967295, 4294967295, 0)
 }
 
-// Whether all rows from a place on are zero.
+// Whether all rows from a place on are zero. With no way out of the loop before its end, several rows are taken at once.
 fn blank_from(letter: &[u32], low: &[u32], high: &[u32], from: usize) -> bool
     requires { ⌜ (from ≤ length (now letter)) × (length (now low) ≡ length (now letter)) × (length (now high) ≡ length (now letter)) ⌝ }
     ensures { λ r. ⌜ r ≡ allBlank (drop from (entries (now (letter .entry)) (now (low .entry)) (now (high .entry)))) ⌝ }
 {
+    let mut bits = 0;
     let mut i = from;
     while i < letter.len() {
-        if !is_entry(letter, low, high, i, 0, 0, 0) {
-            return false;
-        }
+        bits = bits | letter[i] | low[i] | high[i];
         i += 1;
     }
-    true
+    bits == 0
 }
 
 // Whether the table in the columns is sound for some letters, and all past it zero. Builds the index, which is handed over empty.
@@ -329,14 +328,37 @@ pub fn sound(
     blank_from(letter, low, high, n)
 }
 
-// Zeros in a column from a place on.
-fn clear_column(column: &mut [u32], from: usize)
+// Zeros in all of a column.
+fn wipe(column: &mut [u32])
+    ensures { λ _. ⌜ now (column .exit) ≡ replicate (length (now (column .entry))) 0 ⌝ }
+{
+    let mut i = 0;
+    while i < column.len() {
+        column[i] = 0;
+        i += 1;
+    }
+}
+
+// Where the piece of a column that starts at a place ends: 512 numbers on, or at the column's end.
+fn piece_end(from: usize, len: usize) -> usize
+    requires { ⌜ from < len ⌝ }
+    ensures { λ r. ⌜ (from < r) × (r ≤ len) ⌝ }
+{
+    if len - from < 512 {
+        return len;
+    }
+    from + 512
+}
+
+// Zeros in a column from a place on, in short pieces, which take fewer instructions than one long run of zeros.
+pub fn clear_column(column: &mut [u32], from: usize)
     ensures { λ _. ⌜ now (column .exit) ≡ zeroFrom from (now (column .entry)) ⌝ }
 {
     let mut i = from;
     while i < column.len() {
-        column[i] = 0;
-        i += 1;
+        let to = piece_end(i, column.len());
+        wipe(&mut column[i..to]);
+        i = to;
     }
 }
 

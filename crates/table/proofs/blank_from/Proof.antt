@@ -1,28 +1,38 @@
--- The invariant: the rows from the place on, as far as the loop has come, are blank.
+-- The invariant: the bits gathered are 0 exactly where the rows from the place on, as far as the loop has come, are blank.
 use borrow.Author.Needs.{needs}
-use borrow.Author.Tests.{not-true, not-false}
-use mathlib.Core.Path.{sym, _∙_}
 use Prim.Native.Nat.{_-_, _≤_}
 use lib.ListN.{length}
-use Rattle.table.proofs.Judge.{Blanks, blanks-none, blanks-next, blanks-fail, blanks-all}
+use Rattle.diagram.specs.Held.{entries}
+use Rattle.table.proofs.Blanks.{Gathered, gathered-none, gathered-next, gathered-all}
 use Rattle.table.proofs.blank_from.Statement.{statement}
 use Rattle.table.proofs.blank_from.Tie as tie
-use Rattle.diagram.specs.Held.{entries}
 
 abbrev Inv-loop : tie.InvT-loop
-Inv-loop letter low high from i₀ i = (i ≤ length letter) × Blanks (entries letter low high) from i
+Inv-loop letter low high from bits₀ i₀ bits i = (i ≤ length letter) × Gathered (entries letter low high) from i bits
 
 abbrev μ-loop : tie.MeasureT-loop
-μ-loop letter low high from i₀ i = length letter - i
+μ-loop letter low high from bits₀ i₀ bits i = length letter - i
 
 loop-holds : tie.Need-loop-holds Inv-loop μ-loop
-loop-holds c = (search needs, blanks-none _ _)
+loop-holds c = (search needs, gathered-none _ _)
 
-is-entry-requires : tie.Need-is-entry-requires Inv-loop μ-loop
-is-entry-requires c κs = search needs
+mul-bits : tie.Need-mul-bits Inv-loop μ-loop
+mul-bits c = search needs
 
-returns : tie.Need-returns Inv-loop μ-loop
-returns c = blanks-fail _ _ _ (c .before .before .before .loop .inv .1 .passed) (sym (c .before .is-entry .ensures) ∙ not-true _ (c .if1 .taken))
+shared-slice-read-bits : tie.Need-shared-slice-read-bits Inv-loop μ-loop
+shared-slice-read-bits c = search needs
+
+mul-bits-2 : tie.Need-mul-bits-2 Inv-loop μ-loop
+mul-bits-2 c = search needs
+
+shared-slice-read-bits-2 : tie.Need-shared-slice-read-bits-2 Inv-loop μ-loop
+shared-slice-read-bits-2 c = search needs
+
+mul-bits-3 : tie.Need-mul-bits-3 Inv-loop μ-loop
+mul-bits-3 c = search needs
+
+shared-slice-read-bits-3 : tie.Need-shared-slice-read-bits-3 Inv-loop μ-loop
+shared-slice-read-bits-3 c = search needs
 
 add-i : tie.Need-add-i Inv-loop μ-loop
 add-i c = search needs
@@ -31,10 +41,10 @@ loop-less : tie.Need-loop-less Inv-loop μ-loop
 loop-less c = search needs
 
 loop-again : tie.Need-loop-again Inv-loop μ-loop
-loop-again c = (search needs, blanks-next (c .before .before .before .loop .inv .1) (sym (c .before .is-entry .ensures) ∙ not-false _ (c .if1 .left)))
+loop-again c = let s = c .before .before .before .before .before in (search needs, gathered-next (s .args .letter .now) (s .args .low .now) (s .args .high .now) (s .pre .1) (s .pre .2) (c .before .before .before .before .loop .inv .1))
 
-returns-2 : tie.Need-returns-2 Inv-loop μ-loop
-returns-2 c = blanks-all (c .before .before .before .before .before .args .letter .now) (c .before .before .before .before .before .args .low .now) (c .before .before .before .before .before .args .high .now) _ _ (c .before .before .before .before .before .pre .1) (c .before .before .before .before .before .pre .2) (c .before .loop .inv .1) (c .loop-test .left)
+returns : tie.Need-returns Inv-loop μ-loop
+returns c = let s = c .before .before in gathered-all (s .args .letter .now) (s .args .low .now) (s .args .high .now) (s .pre .1) (s .pre .2) (c .before .loop .inv .1) (c .loop-test .left)
 
 pub blank-from-spec : {M : Type 1} → statement M
 blank-from-spec =
@@ -43,9 +53,13 @@ blank-from-spec =
     Inv-loop
     μ-loop
     loop-holds
-    is-entry-requires
-    returns
+    mul-bits
+    shared-slice-read-bits
+    mul-bits-2
+    shared-slice-read-bits-2
+    mul-bits-3
+    shared-slice-read-bits-3
     add-i
     loop-less
     loop-again
-    returns-2)
+    returns)

@@ -2,8 +2,8 @@
 use borrow.Author.Needs.{needs}
 use Prim.Native.Nat.{_-_}
 use native.Mathlib.Omega.{arith}
-use lib.ListN.{length, length-set}
-use Rattle.table.proofs.Clearing.{Clearing, clearing-none, clearing-next, clearing-all}
+use lib.ListN.{length}
+use Rattle.table.proofs.Clearing.{Clearing, clearing-none, clearing-piece, clearing-all}
 use Rattle.table.proofs.clear_column.Statement.{statement}
 use Rattle.table.proofs.clear_column.Tie as tie
 
@@ -16,20 +16,29 @@ abbrev μ-loop : tie.MeasureT-loop
 loop-holds : tie.Need-loop-holds Inv-loop μ-loop
 loop-holds c = clearing-none _ _
 
-mul-column : tie.Need-mul-column Inv-loop μ-loop
-mul-column c = search needs
+piece-end-requires : tie.Need-piece-end-requires Inv-loop μ-loop
+piece-end-requires c κs = search needs
 
-slice-write-column : tie.Need-slice-write-column Inv-loop μ-loop
-slice-write-column c = search needs
+mul-wipe : tie.Need-mul-wipe Inv-loop μ-loop
+mul-wipe c = search needs
 
-add-i : tie.Need-add-i Inv-loop μ-loop
-add-i c = search needs
+sub-wipe : tie.Need-sub-wipe Inv-loop μ-loop
+sub-wipe c = search needs
+
+part-wipe-start : tie.Need-part-wipe-start Inv-loop μ-loop
+part-wipe-start c = search needs
+
+part-wipe-end : tie.Need-part-wipe-end Inv-loop μ-loop
+part-wipe-end c = search needs
+
+wipe-requires : tie.Need-wipe-requires Inv-loop μ-loop
+wipe-requires c κs = search needs
 
 loop-less : tie.Need-loop-less Inv-loop μ-loop
-loop-less c = simp length-set (omega arith)
+loop-less c = search needs
 
 loop-again : tie.Need-loop-again Inv-loop μ-loop
-loop-again c = clearing-next (c .before .loop .inv) (c .loop-test .taken)
+loop-again c = clearing-piece (c .before .before .before .before .before .before .loop .inv) (omega (arith, c .before .before .before .before .piece-end .ensures .0)) (c .before .before .before .before .piece-end .ensures .1) (c .before .before .wipe .ensures)
 
 same-length : tie.Need-same-length Inv-loop μ-loop
 same-length c = search needs
@@ -44,9 +53,12 @@ clear-column-spec =
     Inv-loop
     μ-loop
     loop-holds
-    mul-column
-    slice-write-column
-    add-i
+    piece-end-requires
+    mul-wipe
+    sub-wipe
+    part-wipe-start
+    part-wipe-end
+    wipe-requires
     loop-less
     loop-again
     same-length
