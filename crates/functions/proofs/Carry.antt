@@ -2,7 +2,7 @@
 use mathlib.Core.Path.{_≡_, sym, _∙_, ap}
 use mathlib.Core.Logic.{⊎-elim}
 use mathlib.Core.List.{List}
-use mathlib.Core.Bool.{Bool, true, cond}
+use mathlib.Core.Bool.{Bool, true, false, cond}
 use Prim.Native.Nat.{ℕ, _+_, _-_, _<_, _≤_}
 use native.Mathlib.Omega.{arith}
 use lib.ListN.{length, getD}
@@ -15,7 +15,7 @@ use Rattle.diagram.specs.Store.{Stored, stored, add, join, both, store}
 use Rattle.diagram.specs.Call.{columns, lengthsLegal}
 use Rattle.diagram.specs.Held.{entries, held, heldSound}
 use Rattle.diagram.proofs.Sound.{Branch, Sound, sound-record, sound-test}
-use Rattle.diagram.proofs.Add.{Extends, extends-trans}
+use Rattle.diagram.proofs.Add.{Extends, extends-trans, added}
 use Rattle.diagram.proofs.Number.{part-low, part-high, part-self, part-within, part-larger}
 use Rattle.diagram.proofs.Store.{IsStored, store-stored, join-same, join-differ, join-extends}
 use Rattle.diagram.proofs.Columns.{Lengths, lengths-record}
@@ -70,6 +70,10 @@ module _ {letters : ℕ} {l w h : List ℕ} {used : ℕ} (o : Legible letters l 
   -- and as long as the used count
   pub legible-long : length (held l w h used) ≡ used
   legible-long = held-length l w h (o .low-long) (o .high-long) used (o .fits)
+
+  -- so there is an entry 0
+  pub legible-some : 0 < used
+  legible-some = omega (arith, legible-sound .three, legible-long)
 
   -- an entry's numbers stand in the columns
   pub legible-at : (e : ℕ) → e < used → entryAt (held l w h used) e ≡ record { letter = getD l e 0; low = getD w e 0; high = getD h e 0 }
@@ -190,3 +194,15 @@ module _ (l w h : List ℕ) (m e : ℕ) (low-long : length w ≡ length l) (high
     low-is = sym (part-self (entries l w h) m e 0 (λ q. n (sym row-letter ∙ q)));
     high-is = sym (part-self (entries l w h) m e 1 (λ q. n (sym row-letter ∙ q)));
   }
+
+-- the entry of two joined parts is one of the table's
+pub join-within : {l w h ix l1 w1 h1 ix1 : List ℕ} {t : Table} {used : ℕ} {r : Put} (m a b : ℕ) → Holds l w h ix t used → b < used
+    → Outcome t (join m (stored t a) (stored t b)) l1 w1 h1 ix1 r → stopped (r .stop) ≡ false → r .entry < 65536
+join-within {l1 = l1} {t = t} {r = r} m a b g small o room =
+    let rows : Holds _ _ _ _ (join m (stored t a) (stored t b) .table) (r .used) = o .holds room in
+    let within : join m (stored t a) (stored t b) .entry < length (join m (stored t a) (stored t b) .table) =
+    ⊎-elim
+    (λ (e : a ≡ b). rw (join-same m (stored t a) (stored t b) e) (omega (arith, g .long)))
+    (λ (n : a ≡ b → ⊥). rw (join-differ m (stored t a) (stored t b) n) (added (branch m a b) t .within))
+    (eq-or-ne a b) in
+    omega (arith, o .entry room, rows .long, rows .ready .fits, rows .ready .sized .most)

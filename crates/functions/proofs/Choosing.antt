@@ -1,23 +1,24 @@
 -- The recursion on a selector and two operands, step by step.
-use mathlib.Core.Path.{_≡_, _∙_, subst}
+use mathlib.Core.Path.{_≡_}
 use mathlib.Core.List.{List}
-use mathlib.Core.Bool.{cond}
 use Prim.Native.Nat.{ℕ, _+_, _-_, _<_, _≤_, min}
 use native.Mathlib.Omega.{arith}
 use lib.ListN.{length, getD}
-use lib.Dec.{eqb}
 use Rattle.diagram.specs.Table.{Table, terminalLetter, entryAt}
 use Rattle.diagram.specs.Store.{store}
 use Rattle.diagram.specs.Operation.{chosen}
 use Rattle.diagram.specs.Held.{entries, held}
 use Rattle.diagram.proofs.Sound.{Sound}
-use Rattle.diagram.proofs.Shannon.{choose-terminal, choose-parts, choose-extends}
-use Rattle.table.specs.declared.Stop.the-variants.{Going}
-use Rattle.table.specs.Holds.{Outcome}
-use Rattle.table.proofs.Outcomes.{outcome-there}
+use Rattle.diagram.proofs.Number.{numberAt-extends}
+use Rattle.diagram.proofs.Shannon.{choose-parts, choose-extends}
 use Rattle.functions.specs.Open.{Open, Operand, PartsOf}
-use Rattle.functions.proofs.Carry.{legible-sound, legible-long, letter-at, low-at, parts-table, branch-letter, part-operands}
+use Rattle.functions.proofs.Carry.{legible-sound, legible-long, letter-at, parts-table, branch-letter, part-operands}
+use Rattle.functions.proofs.Known.{Stable}
 use Rattle.functions.proofs.Halving.{Halves}
+
+-- the choice is made alike in every extension
+pub choose-stable : (letters : ℕ) → Stable letters (chosen letters)
+choose-stable letters = record { same = λ few s x a b c p ha hb hc. rw (numberAt-extends a p few s x ha, numberAt-extends b p few s x hb, numberAt-extends c p few s x hc) }
 
 -- a selector s and operands a and b of letters among the last `left`
 module _ {letters : ℕ} {l w h ix : List ℕ} {used : ℕ} (open' : Open letters l w h ix used) {s a b left : ℕ}
@@ -41,15 +42,7 @@ module _ {letters : ℕ} {l w h ix : List ℕ} {used : ℕ} (open' : Open letter
   letter-b : entryAt t b .letter ≡ getD l b 0
   letter-b = letter-at (open' .legible) b (ob .within)
 
-  -- the selector is a terminal
-  pub terminal-done : (e : ℕ) → getD l s 0 ≡ terminalLetter → e ≡ cond (eqb (getD w s 0) 1) a b
-      → Outcome (held l w h used) (store letters 0 (chosen letters (held l w h used) s a b) (held l w h used)) l w h ix
-      (record { stop = Going; entry = e; used = used })
-  terminal-done e leaf same =
-      rw (choose-terminal t (open' .legible .few) sound s a b (letter-s ∙ leaf) (omega (arith, oa .within, long)) (omega (arith, ob .within, long)), low-at (open' .legible) s (os .within), same)
-      (outcome-there (open' .holds) (cond (eqb (getD w s 0) 1) a b))
-
-  -- it is not, and m is the least letter
+  -- the selector is no terminal, and m is the least letter
   module _ {m : ℕ} (node : getD l s 0 ≡ terminalLetter → ⊥) (least : m ≡ min (getD l s 0) (min (getD l a 0) (getD l b 0))) where
     pub node-small : m < letters
     node-small = omega (arith, branch-letter (open' .legible) s (os .within) node)

@@ -6,19 +6,25 @@ use Prim.Native.Nat.{ℕ, _+_, _-_, _<_, _≤_}
 use native.Mathlib.Omega.{arith}
 use lib.ListN.{length, getD}
 use lib.Dec.{eqb}
+use Rattle.diagram.specs.Pattern.{withLetter}
 use Rattle.diagram.specs.Table.{Table, entryAt, partOf}
 use Rattle.diagram.specs.Store.{store}
 use Rattle.diagram.specs.Operation.{letterFixed}
 use Rattle.diagram.specs.Held.{entries, held}
 use Rattle.diagram.proofs.Sound.{Sound}
-use Rattle.diagram.proofs.Number.{part-low, part-high, part-of}
+use Rattle.diagram.proofs.Number.{numberAt-extends, part-low, part-high, part-of}
 use Rattle.diagram.proofs.Shannon.{fix-later, fix-own, fix-parts, fix-extends}
 use Rattle.table.specs.declared.Stop.the-variants.{Going}
 use Rattle.table.specs.Holds.{Outcome}
 use Rattle.table.proofs.Outcomes.{outcome-there}
 use Rattle.functions.specs.Open.{Open, Operand, PartsOf}
 use Rattle.functions.proofs.Carry.{legible-sound, legible-long, letter-at, parts-table, part-operands}
+use Rattle.functions.proofs.Known.{Stable}
 use Rattle.functions.proofs.Halving.{Halves}
+
+-- a letter is fixed alike in every extension
+pub fix-stable : (letters j bit : ℕ) → Stable letters (λ t e _ _. letterFixed letters t e j bit)
+fix-stable letters j bit = record { same = λ few s x a b c p ha hb hc. numberAt-extends a (withLetter j bit p) few s x ha }
 
 -- an entry of letters among the last `left`, and a letter to fix at a bit
 module _ {letters : ℕ} {l w h ix : List ℕ} {used : ℕ} (open' : Open letters l w h ix used) {e j bit left : ℕ}

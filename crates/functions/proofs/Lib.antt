@@ -1,6 +1,9 @@
 pub mod Carry
+pub mod Known
 pub mod Halving
+pub mod Keeping
 pub mod Applying
+pub mod Chosen
 pub mod Choosing
 pub mod Fixing
 pub mod Reading

@@ -1,5 +1,6 @@
 // The operations on two functions that act number by number: one recursion for all.
 ghost use mathlib.Core.Path.{_≡_};
+ghost use mathlib.Core.Bool.{false};
 ghost use Prim.Native.Nat.{_<_};
 ghost use lib.ListN.{length, getD};
 ghost use Rattle.diagram.specs.Table.{terminal};
@@ -7,14 +8,18 @@ ghost use Rattle.diagram.specs.Store.{add as addOf, store};
 ghost use Rattle.diagram.specs.Operation.{apply as applyOf, applied};
 ghost use Rattle.diagram.specs.Held.{held};
 ghost use Rattle.table.specs.Holds.{Holds, Outcome};
+ghost use Rattle.table.specs.Stop.{stopped};
 ghost use Rattle.functions.specs.Open.{Open, Operand};
+ghost use Rattle.functions.specs.Known.{Caches};
 use crate::numbers::TERMINAL;
 use crate::numbers::apply_numbers;
 use crate::step::first_letter;
-use crate::step::join;
+use crate::step::join_kept;
 use crate::step::parts;
+use cache::WORDS;
 use diagram::Operation;
 use table::Put;
+use table::Stop;
 use table::stopped;
 
 // Two terminals: the terminal of the operation's number.
@@ -38,6 +43,90 @@ fn leaf(
     table::add(letter, low, high, index, used, TERMINAL, v, 0)
 }
 
+// The operation on entries `a` and `b`, whose letters are among the last `left` of the k, with a cache of those before.
+fn apply_in(
+    letter: &mut [u32],
+    low: &mut [u32],
+    high: &mut [u32],
+    index: &mut [u32],
+    used: u32,
+    k: u32,
+    o: Operation,
+    a: u32,
+    b: u32,
+    left: u32,
+    cache: &mut [u32],
+) -> Put
+    requires { ⌜ Open k (now letter) (now low) (now high) (now index) used ⌝ }
+    requires { ⌜ Operand k (held (now letter) (now low) (now high) used) used left a × Operand k (held (now letter) (now low) (now high) used) used left b ⌝ }
+    requires { ⌜ Caches (λ t a b _. applied k t o a b) k (held (now letter) (now low) (now high) used) (now cache) ⌝ }
+    ensures { λ r. ⌜ Outcome (held (now (letter .entry)) (now (low .entry)) (now (high .entry)) used) (store k 0 (applied k (held (now (letter .entry)) (now (low .entry)) (now (high .entry)) used) o a b) (held (now (letter .entry)) (now (low .entry)) (now (high .entry)) used)) (now (letter .exit)) (now (low .exit)) (now (high .exit)) (now (index .exit)) r ⌝ }
+    ensures { λ r. ⌜ (stopped (r .stop) ≡ false → Caches (λ t a b _. applied k t o a b) k (held (now (letter .exit)) (now (low .exit)) (now (high .exit)) (r .used)) (now (cache .exit))) ⌝ }
+{
+    let m = first_letter(letter, a, b);
+    if m == TERMINAL {
+        return leaf(letter, low, high, index, used, o, a, b);
+    }
+    let e = cache::look(cache, a, b, 0);
+    if e != 0 {
+        return Put {
+            stop: Stop::Going,
+            entry: e - 1,
+            used,
+        };
+    }
+    let pa = parts(letter, low, high, m, a);
+    let pb = parts(letter, low, high, m, b);
+    let p = apply_in(
+        letter,
+        low,
+        high,
+        index,
+        used,
+        k,
+        o,
+        pa.low,
+        pb.low,
+        left - 1,
+        cache,
+    );
+    let why = p.stop;
+    if stopped(why) {
+        return p;
+    }
+    let q = apply_in(
+        letter,
+        low,
+        high,
+        index,
+        p.used,
+        k,
+        o,
+        pa.high,
+        pb.high,
+        left - 1,
+        cache,
+    );
+    let why = q.stop;
+    if stopped(why) {
+        return q;
+    }
+    join_kept(
+        letter,
+        low,
+        high,
+        index,
+        q.used,
+        m,
+        p.entry,
+        q.entry,
+        cache,
+        a,
+        b,
+        0,
+    )
+}
+
 // The operation on entries `a` and `b`, whose letters are among the last `left` of the k.
 pub fn apply(
     letter: &mut [u32],
@@ -55,43 +144,6 @@ pub fn apply(
     requires { ⌜ Operand k (held (now letter) (now low) (now high) used) used left a × Operand k (held (now letter) (now low) (now high) used) used left b ⌝ }
     ensures { λ r. ⌜ Outcome (held (now (letter .entry)) (now (low .entry)) (now (high .entry)) used) (store k 0 (applied k (held (now (letter .entry)) (now (low .entry)) (now (high .entry)) used) o a b) (held (now (letter .entry)) (now (low .entry)) (now (high .entry)) used)) (now (letter .exit)) (now (low .exit)) (now (high .exit)) (now (index .exit)) r ⌝ }
 {
-    let m = first_letter(letter, a, b);
-    if m == TERMINAL {
-        return leaf(letter, low, high, index, used, o, a, b);
-    }
-    let pa = parts(letter, low, high, m, a);
-    let pb = parts(letter, low, high, m, b);
-    let p = apply(
-        letter,
-        low,
-        high,
-        index,
-        used,
-        k,
-        o,
-        pa.low,
-        pb.low,
-        left - 1,
-    );
-    let why = p.stop;
-    if stopped(why) {
-        return p;
-    }
-    let q = apply(
-        letter,
-        low,
-        high,
-        index,
-        p.used,
-        k,
-        o,
-        pa.high,
-        pb.high,
-        left - 1,
-    );
-    let why = q.stop;
-    if stopped(why) {
-        return q;
-    }
-    join(letter, low, high, index, q.used, m, p.entry, q.entry)
+    let mut cache: [u32; WORDS] = [0; WORDS];
+    apply_in(letter, low, high, index, used, k, o, a, b, left, &mut cache)
 }
