@@ -12,7 +12,7 @@ use Rattle.diagram.specs.Store.{store}
 use Rattle.diagram.specs.Operation.{applied}
 use Rattle.diagram.specs.Held.{entries, held}
 use Rattle.diagram.proofs.Sound.{Sound}
-use Rattle.diagram.proofs.Number.{part-such}
+use Rattle.diagram.proofs.Number.{part-such, numberAt-extends}
 use Rattle.diagram.proofs.Store.{store-stored}
 use Rattle.table.specs.declared.Put.{Put}
 use Rattle.table.specs.declared.Stop.the-variants.{Going}
@@ -23,6 +23,7 @@ use Rattle.functions.specs.Open.{Open, Operand, PartsOf}
 use Rattle.functions.proofs.Carry.{legible-sound, legible-long, parts-table}
 use Rattle.functions.proofs.Applying.{node-small, node-room, parts-a, parts-b, apply-halves}
 use Rattle.functions.proofs.Halving.{Halves, low-open, low-operand}
+use Rattle.functions.proofs.Known.{Stable}
 use Rattle.record.specs.Leasts.{Leasts}
 use Rattle.record.proofs.Leasts.{leasts-less, leasts-extends, leasts-untaken}
 use Rattle.values.proofs.Single.{own-outcome}
@@ -34,6 +35,10 @@ pub flips-later : {k : ℕ} {l w h ix : List ℕ} {used : ℕ} (o : Open k l w h
 flips-later {k} {l} {w} {h} {ix} {used} o time value change small g late =
     own-outcome o value (applied k (held l w h used) (Flip time) value change) small
     (λ p i. rw (ne-eqb (numberAt k (held l w h used) change p) time (leasts-untaken g change time p late (omega arith) i)))
+
+-- what flipping makes of entries is the same in every extension
+pub flip-stable : {k : ℕ} (time : ℕ) → Stable k (λ t a b _. applied k t (Flip time) a b)
+flip-stable time = record { same = λ few s x a b c p ha hb hc. rw (numberAt-extends a p few s x ha, numberAt-extends b p few s x hb) }
 
 -- a part is no later entry
 part-before : {k : ℕ} {t : Table} (m e bit : ℕ) → Sound k t → m < terminalLetter → e < length t → partOf t m bit e ≤ e
