@@ -229,7 +229,7 @@ legal-fits cell e =
     }
 
 -- The fields, part by part: header, nodes, transistors, entries.
-module _ (cell : Cell) (fits : Fitting cell) (a b c d e : List ℕ) (long : length a ≡ 2314) (header : b ≡ puts a (headerWrites (cell .header)))
+module _ (cell : Cell) (fits : Fitting cell) (a b c d e : List ℕ) (long : length a ≡ 2315) (header : b ≡ puts a (headerWrites (cell .header)))
     (nodes : Put 8 80 netNode noNode (cell .nodes) (cell .header .nodes) b c) (transistors : Put 80 400 netTransistor noTransistor (cell .transistors) (cell .header .transistors) c d)
     (entries : Put 400 592 netEntry noEntry (cell .schedule) (cell .header .entries) d e) where
   header-only : OnlyAt 0 8 a b

@@ -11,6 +11,8 @@ use Rattle.format.specs.Legal.{checkCircuit}
 use Rattle.lists.proofs.Padded.{replicate-read}
 use Rattle.rules.specs.Group.{labelAt, groups}
 use Rattle.net.specs.Net.{netLength, at, netCircuit, netArms, armsOf}
+use mathlib.Core.Bool.{false}
+use Rattle.net.specs.Loop.{closes}
 use Rattle.net.specs.Laid.{Within, Laid}
 use Rattle.net.specs.Written.{OnlyAt, Fielded, Armed, Grouped}
 use Rattle.net.proofs.Laying.{nodes-length, transistors-length, legal-within, Same, same-only, same-circuit, same-within}
@@ -25,15 +27,15 @@ part-same a b p k len same =
     let l : i < k = omega (arith, length-take k (drop p b)) in
     getD-take k (drop p b) i 0 l ∙ getD-drop p b i 0 ∙ same (p + i) (omega arith) ∙ sym (getD-take k (drop p a) i 0 l ∙ getD-drop p a i 0))
 
-module _ (c : Circuit) (b : List ℕ) (legal : checkCircuit c ≡ answered c) (fields : Fielded c (replicate 2314 0) b) where
+module _ (c : Circuit) (b : List ℕ) (legal : checkCircuit c ≡ answered c) (fields : Fielded c (replicate 2315 0) b) where
   pub fields-long : length b ≡ netLength
-  fields-long = fields .rest .long ∙ length-replicate {A = ℕ} 2314 0
+  fields-long = fields .rest .long ∙ length-replicate {A = ℕ} 2315 0
 
   pub fields-within : Within b
   fields-within = legal-within b (subst (λ (x : Circuit). checkCircuit x ≡ answered x) (sym (fields .circuit)) legal)
 
   pub fields-bare : (n : ℕ) → n < 26 → at b (592 + n) ≡ 0
-  fields-bare n h = fields .rest .above (592 + n) (omega arith) ∙ replicate-read 2314 (592 + n) 0
+  fields-bare n h = fields .rest .above (592 + n) (omega arith) ∙ replicate-read 2315 (592 + n) 0
 
   module _ (d : List ℕ) (armed : Armed (netCircuit b .transistors) (at b 1) b d) where
     same-d : Same b d
@@ -80,4 +82,7 @@ module _ (c : Circuit) (b : List ℕ) (legal : checkCircuit c ≡ answered c) (f
         degree = λ n h. degree-e n (omega (arith, nodes-e, fields-within .nodes));
         arms = λ n h. arms-e n (omega (arith, nodes-e, fields-within .nodes));
         group = group-e;
+        loops = λ i le lt.
+            let same : netCircuit d ≡ c = same-circuit b d same-d fields-within ∙ fields .circuit in
+            subst (λ (x : Circuit). closes x i ≡ false) same (grouped .loops i le (omega (arith, transistors-length d, same-e 1 (omega arith), same-d 1 (omega arith))));
       }

@@ -9,8 +9,10 @@ use Rattle.format.specs.declared.Transistor.{Transistor}
 use Rattle.format.specs.declared.Entry.{Entry}
 use Rattle.format.specs.Circuit.{Circuit, firstNodeNumber}
 use Rattle.format.specs.Legal.{mostNodes, mostTransistors, mostEntries, mostLetters, mostHorizon, mostCapacitance, mostResistance, checkCircuit}
+use mathlib.Core.Bool.{false}
 use Rattle.rules.specs.Group.{labelAt, groups}
-use Rattle.net.specs.Net.{nodesPlace, transistorsPlace, entriesPlace, lettersPlace, horizonPlace, degreePlace, netLength, at, netNode, netTransistor, netEntry, netCircuit, netArms, armsOf, netGroup}
+use Rattle.net.specs.Net.{nodesPlace, transistorsPlace, entriesPlace, lettersPlace, horizonPlace, degreePlace, loopsPlace, netLength, at, netNode, netTransistor, netEntry, netCircuit, netArms, armsOf, netGroup}
+use Rattle.net.specs.Loop.{closes}
 
 -- a node record's numbers are within limits
 pub record NodeWithin (letters : ℕ) (n : Node) : Type 0 where
@@ -50,7 +52,7 @@ pub record Within (net : List ℕ) : Type 0 where
   pub transistor : (i : ℕ) → i < at net transistorsPlace → TransistorWithin (at net nodesPlace) (netTransistor net i)
   pub entry : (i : ℕ) → i < at net entriesPlace → EntryWithin (at net nodesPlace) (at net lettersPlace) (at net horizonPlace) (netEntry net i)
 
--- the column lays out a legal cell, with each node's arms and the label of its group
+-- the column lays out a legal cell, with each node's arms, the label of its group, and past which transistors none closes a loop
 pub record Laid (c : Circuit) (net : List ℕ) : Type 0 where
   pub long : length net ≡ netLength
   pub circuit : netCircuit net ≡ c
@@ -59,3 +61,4 @@ pub record Laid (c : Circuit) (net : List ℕ) : Type 0 where
   pub degree : (n : ℕ) → n < firstNodeNumber + at net nodesPlace → at net (degreePlace + n) ≤ mostTransistors
   pub arms : (n : ℕ) → n < firstNodeNumber + at net nodesPlace → netArms net n ≡ armsOf c n
   pub group : (n : ℕ) → firstNodeNumber ≤ n → n < firstNodeNumber + at net nodesPlace → netGroup net n ≡ labelAt (groups c) n
+  pub loops : (i : ℕ) → at net loopsPlace ≤ i → i < at net transistorsPlace → closes c i ≡ false

@@ -1,4 +1,5 @@
 pub mod Net
+pub mod Loop
 pub mod Laid
 pub mod Written
 pub mod Roots

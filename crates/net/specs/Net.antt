@@ -70,8 +70,12 @@ armsPlace = 624
 abbrev pub groupPlace : ℕ
 groupPlace = 2288
 
+-- the number after the last transistor that closes a loop of channels
+abbrev pub loopsPlace : ℕ
+loopsPlace = 2314
+
 abbrev pub netLength : ℕ
-netLength = 2314
+netLength = 2315
 
 abbrev pub at : List ℕ → ℕ → ℕ
 at net i = getD net i 0

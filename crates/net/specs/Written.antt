@@ -1,7 +1,7 @@
 -- What each part of laying a cell out writes, and leaves as it was.
 use Prim.Native.Nat.{ℕ, _+_, _*_, _≤_, _<_}
 use mathlib.Core.List.{List, [], _∷_}
-use mathlib.Core.Bool.{cond}
+use mathlib.Core.Bool.{Bool, false, _&&_, cond}
 use mathlib.Core.Path.{_≡_}
 use lib.ListN.{length, getD, take, set}
 use lib.Dec.{eqb}
@@ -11,7 +11,8 @@ use Rattle.format.specs.declared.Entry.{Entry}
 use Rattle.format.specs.declared.Header.{Header}
 use Rattle.format.specs.Circuit.{Circuit, firstNodeNumber}
 use Rattle.rules.specs.Group.{Labels, labelAt, join, betweenInner, groups}
-use Rattle.net.specs.Net.{nodesPlace, transistorsPlace, entriesPlace, lettersPlace, horizonPlace, rolePlace, startPlace, capacitancePlace, polarityPlace, gatePlace, firstPlace, secondPlace, resistancePlace, inputPlace, sourcePlace, timePlace, degreePlace, armsPlace, groupPlace, netLength, at, netCircuit, armsFrom, netArms}
+use Rattle.net.specs.Net.{nodesPlace, transistorsPlace, entriesPlace, lettersPlace, horizonPlace, rolePlace, startPlace, capacitancePlace, polarityPlace, gatePlace, firstPlace, secondPlace, resistancePlace, inputPlace, sourcePlace, timePlace, degreePlace, armsPlace, groupPlace, loopsPlace, netLength, at, netCircuit, armsFrom, netArms}
+use Rattle.net.specs.Loop.{closes}
 
 -- only places from `first` on and before `past` have changed
 pub record OnlyAt (first past : ℕ) (before after : List ℕ) : Type 0 where
@@ -75,12 +76,21 @@ relabelled column place old new n = cond (eqb (at column (place + n)) old) new (
 abbrev pub Labelled : List ℕ → ℕ → Labels → Type 0
 Labelled column place ls = (n : ℕ) → firstNodeNumber ≤ n → n < firstNodeNumber + length ls → at column (place + n) ≡ labelAt ls n
 
+-- whether the ends of a transistor have one label in the column
+abbrev pub sameLabel : List ℕ → Transistor → Bool
+sameLabel column t = eqb (at column (groupPlace + t .first)) (at column (groupPlace + t .second))
+
+-- transistor i was noted if it closes a loop
+abbrev pub noted : Circuit → Transistor → ℕ → List ℕ → List ℕ
+noted c t i net = cond (betweenInner c t && sameLabel net t) (set net loopsPlace (i + 1)) net
+
 -- the labels of the groups, one transistor more
 pub record Linked (c : Circuit) (t : Transistor) (before after : List ℕ) : Type 0 where
-  pub rest : OnlyAt groupPlace netLength before after
+  pub rest : OnlyAt groupPlace loopsPlace before after
   pub labels : (ls : Labels) → length ls ≡ length (c .nodes) → Labelled before groupPlace ls → Labelled after groupPlace (cond (betweenInner c t) (join ls (t .first) (t .second)) ls)
 
 -- the column holds the labels of the groups
 pub record Grouped (c : Circuit) (before after : List ℕ) : Type 0 where
   pub rest : OnlyAt groupPlace netLength before after
   pub labels : Labelled after groupPlace (groups c)
+  pub loops : (i : ℕ) → at after loopsPlace ≤ i → i < length (c .transistors) → closes c i ≡ false

@@ -57,12 +57,15 @@ pub const ARMS: usize = 624;
 
 pub const GROUP: usize = 2288;
 
+// The number after the last transistor that closes a loop of channels between inner nodes; 0 without one.
+pub const LOOPS: usize = 2314;
+
 // A legal cell laid out flat.
-pub fn lay(cell: Cell) -> [u32; 2314]
+pub fn lay(cell: Cell) -> [u32; 2315]
     requires { ⌜ checkCircuit (circuitOf cell) ≡ answered (circuitOf cell) ⌝ }
     ensures { λ r. ⌜ Laid (circuitOf cell) r ⌝ }
 {
-    let mut net = [0u32; 2314];
+    let mut net = [0u32; 2315];
     places::put_fields(&mut net, cell);
     arms::put_arms(&mut net);
     links::put_groups(&mut net);

@@ -3,7 +3,7 @@ use mathlib.Core.Path.{_≡_, sym, _∙_, ap, subst}
 use mathlib.Core.Logic.{_⊎_, inl, inr, ⊎-elim}
 use mathlib.Core.List.{List}
 use mathlib.Core.Bool.{Bool, true, false, not, _&&_, _||_, cond}
-use Prim.Native.Nat.{ℕ, _+_, _-_, _≤_, _<_}
+use Prim.Native.Nat.{ℕ, _+_, _-_, _≤_, _<_, min}
 use native.Mathlib.Omega.{arith}
 use lib.ListN.{length, getD}
 use lib.Dec.{ltb, eqb}
@@ -16,9 +16,10 @@ use Rattle.diagram.specs.Pattern.{patterns}
 use Rattle.diagram.specs.Table.{Table, numberAt}
 use Rattle.diagram.specs.Held.{held}
 use Rattle.diagram.proofs.Add.{Extends, extends-trans}
-use Rattle.working.specs.Grown.{Means, bit}
+use Rattle.working.specs.Grown.{bit}
 use Rattle.working.specs.Many.{Filled}
-use Rattle.working.proofs.Grow.{open-three}
+use Rattle.working.proofs.Grow.{open-three, open-few, open-sound}
+use Rattle.diagram.proofs.Number.{number-zeroth}
 use Rattle.working.proofs.Fill.{number-kept, used-kept, filled-used}
 use Rattle.rules.specs.State.{State, isInner}
 use Rattle.rules.specs.Arrive.{changed}
@@ -31,8 +32,9 @@ use Rattle.net.specs.Net.{at, netCircuit, netGroup}
 use Rattle.net.specs.Laid.{Laid}
 use Rattle.net.proofs.Laying.{nodes-length, transistors-length}
 use Rattle.net.specs.Roots.{touchedPlace, allPendingPlace, allRootsLength}
-use Rattle.prepare.specs.Steps.{Shows, Bits, groupOf, considered, touchedBy, differs, touchedLabel, lookedAt, KeptAll}
+use Rattle.prepare.specs.Steps.{Shows, Bits, groupOf, considered, touchedBy, differs, touchedLabel, lookedAt, isOpen, KeptAll}
 use Rattle.prepare.specs.Roots.{NodeRoots, KeptRoots, Roots}
+use Rattle.net.proofs.Loops.{kept-open}
 use Rattle.prepare.proofs.Reading.{laid-legal, laid-label, laid-least, group-other}
 use Rattle.prepare.proofs.Touching.{touched-same, bit-some}
 
@@ -56,14 +58,7 @@ module _ {letters : ℕ} (t : Table) {t0 : Table} (after : List ℕ) (count : �
       ∙ ap (λ (z : Bool). cond z (numberAt letters t (getD after n 0) p) 0) (lt-ltb n count lt)
 
   module _ {f : ℕ → ℕ → ℕ} {l2 w2 h2 ix2 : List ℕ} {used2 : ℕ} {waiting : List ℕ} (w : Filled 26 letters (held l1 w1 h1 used1) f l2 w2 h2 ix2 used2 waiting) where
-    -- after the next changes
-    pub values-mean : {nodes : ℕ} → (count ≡ nodes + 2) × (nodes ≤ 24) → (n : ℕ) → n < 2 + nodes → Means letters (held l2 w2 h2 used2) (getD values n 0) (numberAt letters t (getD after n 0))
-    values-mean e n lt = record {
-      within = omega (arith, w .extends .longer, v .means n (omega (arith, e .0, e .1)) .within);
-      number = λ p hp. value-in (w .extends) n p (omega (arith, e .0)) (omega (arith, e .0, e .1)) hp;
-    }
-
-    -- and after the touched functions
+    -- after the next changes and the touched functions
     pub values-bits : {g : ℕ → ℕ → ℕ} {l3 w3 h3 ix3 : List ℕ} {used3 : ℕ} {marks : List ℕ} (m : Filled 26 letters (held l2 w2 h2 used2) g l3 w3 h3 ix3 used3 marks) {nodes : ℕ} → (count ≡ nodes + 2) × (nodes ≤ 24) → Bits letters t after (2 + nodes)
         → Bits letters (held l3 w3 h3 used3) values (2 + nodes)
     values-bits m e bits n p lt hp = subst (λ (z : ℕ). z ≤ 1) (sym (value-in (extends-trans (w .extends) (m .extends)) n p (omega (arith, e .0)) (omega (arith, e .0, e .1)) hp)) (bits n p lt hp)
@@ -73,7 +68,7 @@ module _ (net : List ℕ) (k : Laid (netCircuit net) net) {letters : ℕ} (t : T
     (v : Filled 26 letters t0 (λ m p. cond (ltb m count) (numberAt letters t (getD after m 0) p) 0) l1 w1 h1 ix1 used1 values)
     (w : Filled 26 letters (held l1 w1 h1 used1) (λ m p. cond (ltb m count) (numberAt letters t (getD pending m 0) p) 0) l2 w2 h2 ix2 used2 waiting)
     (m : Filled 26 letters (held l2 w2 h2 used2) (λ g p. bit (touchedLabel (netCircuit net) (2 + at net 0) letters t before after all only p g)) l3 w3 h3 ix3 used3 marks)
-    (q : KeptAll (netCircuit net) (at net 0) letters (held l3 w3 h3 used3) values marks (at net 1) l4 w4 h4 ix4 used4 kept)
+    (q : KeptAll (netCircuit net) (at net 0) letters (held l3 w3 h3 used3) values marks (min (at net 2314) (at net 1)) (at net 1) l4 w4 h4 ix4 used4 kept)
     (a : NodeRoots (netCircuit net) (at net 0) values marks waiting (2 + at net 0) nodes) (b : KeptRoots nodes kept 64 roots) where
   abbrev c : Circuit
   c = netCircuit net
@@ -102,6 +97,11 @@ module _ (net : List ℕ) (k : Laid (netCircuit net) net) {letters : ℕ} (t : T
 
   mark-last : (g p : ℕ) → g < 26 → numberAt letters last (getD marks g 0) p ≡ numberAt letters third (getD marks g 0) p
   mark-last g p hg = number-kept (m .opened) (q .extends) (getD marks g 0) p (filled-used m g hg)
+
+  -- a group that is touched at a pattern has another function than entry 0
+  mark-some : (i p : ℕ) → lookedAt c letters third marks p i ≡ true → getD marks (groupOf c (transistorAt c i)) 0 ≡ 0 → ⊥
+  mark-some i p e z =
+      omega (arith, eqb-true (numberAt letters third (getD marks (groupOf c (transistorAt c i)) 0) p) 1 e, ap (λ (x : ℕ). numberAt letters third x p) z ∙ number-zeroth third p (open-few (m .opened)) (open-sound (m .opened)))
 
   -- the root of a touched function is its group's
   module _ (n : ℕ) (lt : n < 2 + at net 0) (inner : isInner c n ≡ true) where
@@ -154,8 +154,15 @@ module _ (net : List ℕ) (k : Laid (netCircuit net) net) {letters : ℕ} (t : T
         → numberAt letters last (getD roots (26 + i) 0) p ≡ bit (isKept c sa i)
     kept-rule i p sa hp ha e hi of =
         ap (λ (z : ℕ). numberAt letters last z p) (b .kept-at i (omega (arith, k .within .transistors)))
-        ∙ q .kept-is i p sa hi hp (λ j hj. ha j hj ∙ sym (value-third j p hj hp))
-        ∙ ap bit (group-kept c (laid-legal net k) n sa (lookedAt c letters third marks p) (looked p e) i (omega (arith, transistors-length net)) of)
+        ∙ ⊎-elim
+        (λ (lt : i < min (at net 2314) (at net 1)).
+        q .kept-is i p sa lt hp (λ j hj. ha j hj ∙ sym (value-third j p hj hp))
+        ∙ ap bit (group-kept c (laid-legal net k) n sa (lookedAt c letters third marks p) (looked p e) i (omega (arith, transistors-length net)) of))
+        (λ (le : min (at net 2314) (at net 1) ≤ i).
+        q .open-is i p sa le hi hp (λ j hj. ha j hj ∙ sym (value-third j p hj hp))
+        ∙ ap (λ (z : Bool). bit (not z && conducts sa (transistorAt c i))) (ne-eqb (getD marks (groupOf c (transistorAt c i)) 0) 0 (mark-some i p (looked p e i (omega (arith, transistors-length net)) of)))
+        ∙ ap bit (sym (kept-open c (laid-legal net k) sa i (omega (arith, transistors-length net)) (k .loops i (omega (arith, le, hi)) hi))))
+        (lt-or-ge i (min (at net 2314) (at net 1)))
 
   -- a transistor that is kept is looked at, and so is its whole group: the rule keeps it
   module _ (i p : ℕ) (sa : State) (hp : p < patterns letters) (ha : Shows letters t after (at net 0) p sa) (hi : i < at net 1) where
@@ -168,12 +175,18 @@ module _ (net : List ℕ) (k : Laid (netCircuit net) net) {letters : ℕ} (t : T
     here : i < length (c .transistors)
     here = omega (arith, transistors-length net)
 
-    kept-held : numberAt letters last (getD roots (26 + i) 0) p ≡ bit (isHeld c sa seen i)
-    kept-held = ap (λ (z : ℕ). numberAt letters last z p) (b .kept-at i (omega (arith, k .within .transistors))) ∙ q .kept-is i p sa hi hp (λ j hj. ha j hj ∙ sym (value-third j p hj hp))
+    root-is : numberAt letters last (getD roots (26 + i) 0) p ≡ numberAt letters last (getD kept i 0) p
+    root-is = ap (λ (z : ℕ). numberAt letters last z p) (b .kept-at i (omega (arith, k .within .transistors)))
 
-    module _ (e : numberAt letters last (getD roots (26 + i) 0) p ≡ 1) where
+    -- past the last that closes a loop it conducts
+    open-only : numberAt letters last (getD roots (26 + i) 0) p ≡ 1 → min (at net 2314) (at net 1) ≤ i → isKept c sa i ≡ true
+    open-only e le =
+        let some : isOpen c sa marks i ≡ true = bit-some (isOpen c sa marks i) (λ z. omega (arith, sym e ∙ root-is ∙ q .open-is i p sa le hi hp (λ j hj. ha j hj ∙ sym (value-third j p hj hp)) ∙ z)) in
+        kept-open c (laid-legal net k) sa i here (k .loops i (omega (arith, le, hi)) hi) ∙ and-right (not (eqb (getD marks (groupOf c u) 0) 0)) (conducts sa u) some
+
+    module _ (e : numberAt letters last (getD roots (26 + i) 0) p ≡ 1) (before' : i < min (at net 2314) (at net 1)) where
       is-held : isHeld c sa seen i ≡ true
-      is-held = bit-some (isHeld c sa seen i) (λ z. omega (arith, sym e ∙ kept-held ∙ z))
+      is-held = bit-some (isHeld c sa seen i) (λ z. omega (arith, sym e ∙ root-is ∙ q .kept-is i p sa before' hp (λ j hj. ha j hj ∙ sym (value-third j p hj hp)) ∙ z))
 
       is-on : conducts sa u && seen i ≡ true
       is-on = and-left (conducts sa u && seen i) _ is-held
@@ -194,8 +207,11 @@ module _ (net : List ℕ) (k : Laid (netCircuit net) net) {letters : ℕ} (t : T
           ∙ eqb-true _ 1 (and-right (conducts sa u) (seen i) is-on) in
           bit-some (isKept c sa i) (λ z. omega (arith, sym e ∙ kept-rule (u .first) lt inner i p sa hp ha mark hi of ∙ z))
 
-      kept-only : isKept c sa i ≡ true
-      kept-only = ⊎-elim kept-between kept-driven (bool-cases (betweenInner c u))
+      looped-only : isKept c sa i ≡ true
+      looped-only = ⊎-elim kept-between kept-driven (bool-cases (betweenInner c u))
+
+    kept-only : numberAt letters last (getD roots (26 + i) 0) p ≡ 1 → isKept c sa i ≡ true
+    kept-only e = ⊎-elim (looped-only e) (open-only e) (lt-or-ge i (min (at net 2314) (at net 1)))
 
   -- every root is a used entry
   within : (j : ℕ) → j < allRootsLength → getD roots j 0 < used4

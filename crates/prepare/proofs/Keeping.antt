@@ -34,11 +34,11 @@ use Rattle.rules.specs.Kept.{conducts}
 use Rattle.rules.proofs.Matrix.{transistorAt, linked, holds, isHeld, matrixAt}
 use Rattle.net.specs.Net.{at, netTransistor, netCircuit}
 use Rattle.net.specs.Laid.{Laid}
-use Rattle.prepare.specs.Steps.{Shows, Bits, one, groupOf, conductsNumber, keptNumber, lookedAt, Keeping, KeptAll}
+use Rattle.prepare.specs.Steps.{Shows, Bits, one, groupOf, conductsNumber, keptNumber, lookedAt, Keeping, KeptLooped}
 use Rattle.prepare.proofs.Reading.{laid-between, laid-by-first, laid-by-second, laid-no-group}
 
 -- a p or an n, in bits
-conducts-bit : (polarity gate : ℕ) → polarity ≤ 1 → gate ≤ 1 → conductsNumber polarity gate ≡ bit (eqb gate (1 - polarity))
+pub conducts-bit : (polarity gate : ℕ) → polarity ≤ 1 → gate ≤ 1 → conductsNumber polarity gate ≡ bit (eqb gate (1 - polarity))
 conducts-bit zero zero hp hg = refl
 conducts-bit zero (suc zero) hp hg = refl
 conducts-bit zero (suc (suc g)) hp hg = absurd (omega arith)
@@ -308,7 +308,7 @@ keeping-first {c} {nodes} {letters} {l} {w} {h} {ix} {used} {values} {touched} {
 
 -- after the last
 pub keeping-done : {c : Circuit} {nodes letters : ℕ} {t : Table} {values touched : List ℕ} {i count : ℕ} {l w h ix : List ℕ} {used : ℕ} {out : List ℕ} {joined : List (List ℕ)} → Keeping c nodes letters t values touched i l w h ix used out joined → count ≤ i
-    → KeptAll c nodes letters t values touched count l w h ix used out
+    → KeptLooped c nodes letters t values touched count l w h ix used out
 keeping-done s le = record { opened = s .opened; extends = s .extends; kept-used = s .kept-used; kept-is = λ i p z hi hp shows. s .kept-is i p z (omega arith) hp shows }
 
 -- the loop over the transistors

@@ -1,5 +1,6 @@
 pub mod Reading
 pub mod Touching
 pub mod Keeping
+pub mod Opening
 pub mod Placing
 pub mod Assembly

@@ -40,10 +40,21 @@ bit-back (suc zero) h = refl
 bit-back (suc (suc y)) h = absurd (omega arith)
 
 -- three choices in a row
-three-bits : (z g a b : Bool) → cond (eqb (cond (eqb (cond z 1 (bit g)) 1) 1 (bit a)) 1) 1 (bit b) ≡ bit (z || ((g || a) || b))
-three-bits true g a b = refl
-three-bits false true a b = refl
-three-bits false false true b = refl
+three-bits : (z g a b : Bool) → cond (eqb (bit b) 1) 1 (cond (eqb (bit a) 1) 1 (cond g 1 (bit z))) ≡ bit (z || ((g || a) || b))
+three-bits true true true true = refl
+three-bits true true true false = refl
+three-bits true true false true = refl
+three-bits true true false false = refl
+three-bits true false true true = refl
+three-bits true false true false = refl
+three-bits true false false true = refl
+three-bits true false false false = refl
+three-bits false true true true = refl
+three-bits false true true false = refl
+three-bits false true false true = refl
+three-bits false true false false = refl
+three-bits false false true true = refl
+three-bits false false true false = refl
 three-bits false false false true = refl
 three-bits false false false false = refl
 
@@ -56,20 +67,20 @@ module _ {letters : ℕ} {l w h ix : List ℕ} {used : ℕ} (o : Open letters l 
   if-number true e p small = bit-back (n e p) small
   if-number false e p small = number-zeroth (held l w h used) p (open-few o) (open-sound o)
 
-  -- z, the gate's change, and the changes of the ends that are inputs
+  -- the gate's change, and the changes of the ends that are inputs, or z
   pub touch-grown : (z gate ea eb a b : ℕ) (ia ib : Bool) {l1 w1 h1 ix1 l2 w2 h2 ix2 l3 w3 h3 ix3 : List ℕ} {p q r : Put} → a ≡ cond ia ea 0 → b ≡ cond ib eb 0 → a < used → b < used
-      → ((x : ℕ) → x < patterns letters → numberAt letters (held l w h used) gate x ≤ 1) → ((x : ℕ) → x < patterns letters → numberAt letters (held l w h used) ea x ≤ 1) → ((x : ℕ) → x < patterns letters → numberAt letters (held l w h used) eb x ≤ 1)
-      → (g : Grown letters (held l w h used) (λ x. cond (eqb (numberAt letters (held l w h used) z x) 1) 1 (numberAt letters (held l w h used) gate x)) l1 w1 h1 ix1 p) → stopped (p .stop) ≡ false
-      → (s : Grown letters (held l1 w1 h1 (p .used)) (λ x. cond (eqb (numberAt letters (held l1 w1 h1 (p .used)) (p .entry) x) 1) 1 (numberAt letters (held l1 w1 h1 (p .used)) a x)) l2 w2 h2 ix2 q) → stopped (q .stop) ≡ false
-      → Grown letters (held l2 w2 h2 (q .used)) (λ x. cond (eqb (numberAt letters (held l2 w2 h2 (q .used)) (q .entry) x) 1) 1 (numberAt letters (held l2 w2 h2 (q .used)) b x)) l3 w3 h3 ix3 r
+      → ((x : ℕ) → x < patterns letters → numberAt letters (held l w h used) z x ≤ 1) → ((x : ℕ) → x < patterns letters → numberAt letters (held l w h used) ea x ≤ 1) → ((x : ℕ) → x < patterns letters → numberAt letters (held l w h used) eb x ≤ 1)
+      → (g : Grown letters (held l w h used) (λ x. cond (eqb (numberAt letters (held l w h used) gate x) 1) 1 (numberAt letters (held l w h used) z x)) l1 w1 h1 ix1 p) → stopped (p .stop) ≡ false
+      → (s : Grown letters (held l1 w1 h1 (p .used)) (λ x. cond (eqb (numberAt letters (held l1 w1 h1 (p .used)) a x) 1) 1 (numberAt letters (held l1 w1 h1 (p .used)) (p .entry) x)) l2 w2 h2 ix2 q) → stopped (q .stop) ≡ false
+      → Grown letters (held l2 w2 h2 (q .used)) (λ x. cond (eqb (numberAt letters (held l2 w2 h2 (q .used)) b x) 1) 1 (numberAt letters (held l2 w2 h2 (q .used)) (q .entry) x)) l3 w3 h3 ix3 r
       → Grown letters (held l w h used) (λ x. bit (eqb (numberAt letters (held l w h used) z x) 1 || ((eqb (numberAt letters (held l w h used) gate x) 1 || (ia && eqb (numberAt letters (held l w h used) ea x) 1)) || (ib && eqb (numberAt letters (held l w h used) eb x) 1)))) l3 w3 h3 ix3 r
-  touch-grown z gate ea eb a b ia ib {l1} {w1} {h1} {ix1} {l2} {w2} {h2} {ix2} {p = p} {q} da db ha hb fg fa fb g room s rest u =
+  touch-grown z gate ea eb a b ia ib {l1} {w1} {h1} {ix1} {l2} {w2} {h2} {ix2} {p = p} {q} da db ha hb fz fa fb g room s rest u =
       let x : Extends (held l w h used) (held l2 w2 h2 (q .used)) = extends-trans (g .extends room) (s .extends rest) in
       grown-then (grown-then g room s) rest
       (grown-same u (λ y hy.
-      ap (λ (v : ℕ). cond (eqb v 1) 1 (numberAt letters (held l2 w2 h2 (q .used)) b y)) (s .means rest .number y hy)
+      ap (λ (v : ℕ). cond (eqb (numberAt letters (held l2 w2 h2 (q .used)) b y) 1) 1 v) (s .means rest .number y hy)
       ∙ rw (g .means room .number y hy, grown-number o g room a y ha, number-kept o x b y hb, da, db, if-number ia ea y (fa y hy), if-number ib eb y (fb y hy))
-      (ap (λ (v : ℕ). cond (eqb (cond (eqb (cond (eqb (n z y) 1) 1 v) 1) 1 (bit (ia && eqb (n ea y) 1))) 1) 1 (bit (ib && eqb (n eb y) 1))) (bit-back (n gate y) (fg y hy))
+      (ap (λ (v : ℕ). cond (eqb (bit (ib && eqb (n eb y) 1)) 1) 1 (cond (eqb (bit (ia && eqb (n ea y) 1)) 1) 1 (cond (eqb (n gate y) 1) 1 v))) (bit-back (n z y) (fz y hy))
       ∙ three-bits (eqb (n z y) 1) (eqb (n gate y) 1) (ia && eqb (n ea y) 1) (ib && eqb (n eb y) 1))))
 
   -- a group that is not considered, or none

@@ -17,6 +17,7 @@ use Rattle.working.specs.Grown.{bit}
 use Rattle.working.specs.Many.{cell, AllUsed}
 use Rattle.rules.specs.State.{State, valueAt, isInner}
 use Rattle.rules.specs.Group.{labelAt, groups, some}
+use Rattle.rules.specs.Kept.{conducts}
 use Rattle.rules.proofs.Matrix.{isHeld, matrixAt, transistorAt}
 
 -- a state has the values that entries, by node number, take at a pattern
@@ -84,10 +85,36 @@ pub record Keeping (c : Circuit) (nodes letters : ℕ) (t : Table) (values touch
   pub joined-is : (x y p : ℕ) (s : State) → x < 24 → y < 24 → p < patterns letters → Shows letters t values nodes p s
       → numberAt letters (held l w h used) (cell joined x y) p ≡ bit (matrixAt c s (lookedAt c letters t touched p) count (x + 2) (y + 2))
 
--- the kept functions of all transistors
-pub record KeptAll (c : Circuit) (nodes letters : ℕ) (t : Table) (values touched : List ℕ) (count : ℕ) (l w h ix : List ℕ) (used : ℕ) (kept : List ℕ) : Type 0 where
+-- past the last transistor that closes a loop: where it conducts; nowhere where the touched function of its group is entry 0
+abbrev pub openNumber : (polarity touched gate : ℕ) → ℕ
+openNumber polarity touched gate = cond (eqb touched 0) 0 (conductsNumber polarity gate)
+
+abbrev pub isOpen : Circuit → State → List ℕ → ℕ → Bool
+isOpen c s touched i = not (eqb (getD touched (groupOf c (transistorAt c i)) 0) 0) && conducts s (transistorAt c i)
+
+-- the kept functions of the transistors before `count` that the matrix was asked for
+pub record KeptLooped (c : Circuit) (nodes letters : ℕ) (t : Table) (values touched : List ℕ) (count : ℕ) (l w h ix : List ℕ) (used : ℕ) (kept : List ℕ) : Type 0 where
   pub opened : Open letters l w h ix used
   pub extends : Extends t (held l w h used)
   pub kept-used : AllUsed 64 kept used
   pub kept-is : (i p : ℕ) (s : State) → i < count → p < patterns letters → Shows letters t values nodes p s
       → numberAt letters (held l w h used) (getD kept i 0) p ≡ bit (isHeld c s (lookedAt c letters t touched p) i)
+
+-- those from `from` on and before `count`, beside some before them
+pub record KeptRest (c : Circuit) (nodes letters : ℕ) (t : Table) (values touched before : List ℕ) (from count : ℕ) (l w h ix : List ℕ) (used : ℕ) (kept : List ℕ) : Type 0 where
+  pub opened : Open letters l w h ix used
+  pub extends : Extends t (held l w h used)
+  pub kept-used : AllUsed 64 kept used
+  pub same : (i : ℕ) → i < from → getD kept i 0 ≡ getD before i 0
+  pub open-is : (i p : ℕ) (s : State) → from ≤ i → i < count → p < patterns letters → Shows letters t values nodes p s
+      → numberAt letters (held l w h used) (getD kept i 0) p ≡ bit (isOpen c s touched i)
+
+-- the kept functions of all transistors: those before `from` by the matrix, the others where they conduct
+pub record KeptAll (c : Circuit) (nodes letters : ℕ) (t : Table) (values touched : List ℕ) (from count : ℕ) (l w h ix : List ℕ) (used : ℕ) (kept : List ℕ) : Type 0 where
+  pub opened : Open letters l w h ix used
+  pub extends : Extends t (held l w h used)
+  pub kept-used : AllUsed 64 kept used
+  pub kept-is : (i p : ℕ) (s : State) → i < from → p < patterns letters → Shows letters t values nodes p s
+      → numberAt letters (held l w h used) (getD kept i 0) p ≡ bit (isHeld c s (lookedAt c letters t touched p) i)
+  pub open-is : (i p : ℕ) (s : State) → from ≤ i → i < count → p < patterns letters → Shows letters t values nodes p s
+      → numberAt letters (held l w h used) (getD kept i 0) p ≡ bit (isOpen c s touched i)

@@ -1,7 +1,7 @@
-// Rule 3: the kept functions of the transistors, by rising number, with the matrix of joined-functions.
+// Rule 3 where channels make loops: the kept functions of the transistors, by rising number, with the matrix of joined-functions.
 ghost use mathlib.Core.Path.{_≡_};
 ghost use mathlib.Core.Bool.{true, false, cond};
-ghost use Prim.Native.Nat.{ℕ, _+_, _-_, _<_};
+ghost use Prim.Native.Nat.{ℕ, _+_, _-_, _<_, _≤_};
 ghost use lib.ListN.{getD};
 ghost use lib.Dec.{eqb};
 ghost use Rattle.format.specs.Circuit.{firstNodeNumber};
@@ -14,7 +14,7 @@ ghost use Rattle.working.specs.Many.{AllUsed, cell, Matrixed, linkedNumber};
 ghost use Rattle.rules.specs.Group.{betweenInner};
 ghost use Rattle.net.specs.Net.{nodesPlace, transistorsPlace, at as atPlace, netTransistor, netCircuit};
 ghost use Rattle.net.specs.Laid.{Laid};
-ghost use Rattle.prepare.specs.Steps.{Bits, groupOf, conductsNumber, keptNumber, KeptAll};
+ghost use Rattle.prepare.specs.Steps.{Bits, groupOf, conductsNumber, keptNumber, KeptLooped};
 use crate::touch::group_of;
 use net::inner::between_inner;
 use table::Put;
@@ -33,7 +33,7 @@ pub struct Kept {
 }
 
 // Where transistor i conducts: an n where its gate is 1, a p where it is not.
-fn conducts(
+pub fn conducts(
     net: &[u32],
     values: [u32; 26],
     letter: &mut [u32],
@@ -66,7 +66,7 @@ fn keep(
     net: &[u32],
     values: [u32; 26],
     touched: [u32; 26],
-    joined: [[u32; 24]; 24],
+    joined: &[[u32; 24]; 24],
     letter: &mut [u32],
     low: &mut [u32],
     high: &mut [u32],
@@ -76,8 +76,8 @@ fn keep(
     i: u32,
 ) -> Put
     requires { ⌜ Laid (netCircuit (now net)) (now net) × (i < atPlace (now net) transistorsPlace) ⌝ }
-    requires { ⌜ Open k (now letter) (now low) (now high) (now index) used × AllUsed 26 values used × AllUsed 26 touched used × ((x y : ℕ) → x < 24 → y < 24 → cell joined x y < used) ⌝ }
-    ensures { λ r. ⌜ Grown k (held (now (letter .entry)) (now (low .entry)) (now (high .entry)) used) (λ p. keptNumber (netTransistor (now (net .entry)) i .polarity) (betweenInner (netCircuit (now (net .entry))) (netTransistor (now (net .entry)) i)) (numberAt k (held (now (letter .entry)) (now (low .entry)) (now (high .entry)) used) (getD touched (groupOf (netCircuit (now (net .entry))) (netTransistor (now (net .entry)) i)) 0) p) (numberAt k (held (now (letter .entry)) (now (low .entry)) (now (high .entry)) used) (getD values (netTransistor (now (net .entry)) i .gate) 0) p) (numberAt k (held (now (letter .entry)) (now (low .entry)) (now (high .entry)) used) (cell joined (netTransistor (now (net .entry)) i .first - 2) (netTransistor (now (net .entry)) i .second - 2)) p)) (now (letter .exit)) (now (low .exit)) (now (high .exit)) (now (index .exit)) r ⌝ }
+    requires { ⌜ Open k (now letter) (now low) (now high) (now index) used × AllUsed 26 values used × AllUsed 26 touched used × ((x y : ℕ) → x < 24 → y < 24 → cell (now joined) x y < used) ⌝ }
+    ensures { λ r. ⌜ Grown k (held (now (letter .entry)) (now (low .entry)) (now (high .entry)) used) (λ p. keptNumber (netTransistor (now (net .entry)) i .polarity) (betweenInner (netCircuit (now (net .entry))) (netTransistor (now (net .entry)) i)) (numberAt k (held (now (letter .entry)) (now (low .entry)) (now (high .entry)) used) (getD touched (groupOf (netCircuit (now (net .entry))) (netTransistor (now (net .entry)) i)) 0) p) (numberAt k (held (now (letter .entry)) (now (low .entry)) (now (high .entry)) used) (getD values (netTransistor (now (net .entry)) i .gate) 0) p) (numberAt k (held (now (letter .entry)) (now (low .entry)) (now (high .entry)) used) (cell (now (joined .entry)) (netTransistor (now (net .entry)) i .first - 2) (netTransistor (now (net .entry)) i .second - 2)) p)) (now (letter .exit)) (now (low .exit)) (now (high .exit)) (now (index .exit)) r ⌝ }
 {
     let g = group_of(net, i);
     let e = touched[g];
@@ -107,7 +107,7 @@ fn keep(
     without(letter, low, high, index, q.used, k, q.entry, joined[a][b])
 }
 
-// The matrix after transistor i. No room: `used` becomes 0.
+// The matrix becomes that after transistor i, and stays where nothing is kept or an end is driven. No room: `used` becomes 0.
 fn link_kept(
     net: &[u32],
     letter: &mut [u32],
@@ -118,22 +118,23 @@ fn link_kept(
     k: u32,
     i: u32,
     kept: u32,
-    joined: [[u32; 24]; 24],
-) -> [[u32; 24]; 24]
+    joined: &mut [[u32; 24]; 24],
+)
     requires { ⌜ Laid (netCircuit (now net)) (now net) × (i < atPlace (now net) transistorsPlace) ⌝ }
-    requires { ⌜ Open k (now letter) (now low) (now high) (now index) (now used) × (kept < now used) × ((x y : ℕ) → x < 24 → y < 24 → cell joined x y < now used) ⌝ }
-    ensures { λ r. ⌜ ((now (used .exit) ≡ 0 → ⊥) → Matrixed k (held (now (letter .entry)) (now (low .entry)) (now (high .entry)) (now (used .entry))) (λ x y p. cond (betweenInner (netCircuit (now (net .entry))) (netTransistor (now (net .entry)) i)) (linkedNumber (numberAt k (held (now (letter .entry)) (now (low .entry)) (now (high .entry)) (now (used .entry))) kept p) (numberAt k (held (now (letter .entry)) (now (low .entry)) (now (high .entry)) (now (used .entry))) (cell joined x y) p) (numberAt k (held (now (letter .entry)) (now (low .entry)) (now (high .entry)) (now (used .entry))) (cell joined x (netTransistor (now (net .entry)) i .first - 2)) p) (numberAt k (held (now (letter .entry)) (now (low .entry)) (now (high .entry)) (now (used .entry))) (cell joined (netTransistor (now (net .entry)) i .second - 2) y) p) (numberAt k (held (now (letter .entry)) (now (low .entry)) (now (high .entry)) (now (used .entry))) (cell joined x (netTransistor (now (net .entry)) i .second - 2)) p) (numberAt k (held (now (letter .entry)) (now (low .entry)) (now (high .entry)) (now (used .entry))) (cell joined (netTransistor (now (net .entry)) i .first - 2) y) p)) (numberAt k (held (now (letter .entry)) (now (low .entry)) (now (high .entry)) (now (used .entry))) (cell joined x y) p)) (now (letter .exit)) (now (low .exit)) (now (high .exit)) (now (index .exit)) (now (used .exit)) r) × (now (used .exit) ≡ 0 → Crowded k (held (now (letter .entry)) (now (low .entry)) (now (high .entry)) (now (used .entry))) (now (letter .exit)) (now (low .exit)) (now (high .exit)) (now (index .exit))) ⌝ }
+    requires { ⌜ Open k (now letter) (now low) (now high) (now index) (now used) × (kept < now used) × ((x y : ℕ) → x < 24 → y < 24 → cell (now joined) x y < now used) ⌝ }
+    ensures { λ _. ⌜ ((now (used .exit) ≡ 0 → ⊥) → Matrixed k (held (now (letter .entry)) (now (low .entry)) (now (high .entry)) (now (used .entry))) (λ x y p. cond (betweenInner (netCircuit (now (net .entry))) (netTransistor (now (net .entry)) i)) (linkedNumber (numberAt k (held (now (letter .entry)) (now (low .entry)) (now (high .entry)) (now (used .entry))) kept p) (numberAt k (held (now (letter .entry)) (now (low .entry)) (now (high .entry)) (now (used .entry))) (cell (now (joined .entry)) x y) p) (numberAt k (held (now (letter .entry)) (now (low .entry)) (now (high .entry)) (now (used .entry))) (cell (now (joined .entry)) x (netTransistor (now (net .entry)) i .first - 2)) p) (numberAt k (held (now (letter .entry)) (now (low .entry)) (now (high .entry)) (now (used .entry))) (cell (now (joined .entry)) (netTransistor (now (net .entry)) i .second - 2) y) p) (numberAt k (held (now (letter .entry)) (now (low .entry)) (now (high .entry)) (now (used .entry))) (cell (now (joined .entry)) x (netTransistor (now (net .entry)) i .second - 2)) p) (numberAt k (held (now (letter .entry)) (now (low .entry)) (now (high .entry)) (now (used .entry))) (cell (now (joined .entry)) (netTransistor (now (net .entry)) i .first - 2) y) p)) (numberAt k (held (now (letter .entry)) (now (low .entry)) (now (high .entry)) (now (used .entry))) (cell (now (joined .entry)) x y) p)) (now (letter .exit)) (now (low .exit)) (now (high .exit)) (now (index .exit)) (now (used .exit)) (now (joined .exit))) × (now (used .exit) ≡ 0 → Crowded k (held (now (letter .entry)) (now (low .entry)) (now (high .entry)) (now (used .entry))) (now (letter .exit)) (now (low .exit)) (now (high .exit)) (now (index .exit))) ⌝ }
 {
     if kept == 0 {
-        return joined;
+        return;
     }
     if !between_inner(net, i) {
-        return joined;
+        return;
     }
     let at = i as usize;
     let a = net[net::FIRST + at] as usize - 2;
     let b = net[net::SECOND + at] as usize - 2;
-    link(letter, low, high, index, used, k, kept, a, b, joined)
+    let old = *joined;
+    *joined = link(letter, low, high, index, used, k, kept, a, b, old);
 }
 
 // At first each node is joined to itself alone.
@@ -149,8 +150,8 @@ fn identity() -> [[u32; 24]; 24]
     out
 }
 
-// The kept functions of all transistors, by rising number.
-pub fn keep_all(
+// The kept functions of the first `count` transistors, by rising number.
+pub fn keep_looped(
     net: &[u32],
     values: [u32; 26],
     touched: [u32; 26],
@@ -160,12 +161,12 @@ pub fn keep_all(
     index: &mut [u32],
     used: u32,
     k: u32,
+    count: u32,
 ) -> Kept
-    requires { ⌜ Laid (netCircuit (now net)) (now net) ⌝ }
+    requires { ⌜ Laid (netCircuit (now net)) (now net) × (count ≤ atPlace (now net) transistorsPlace) ⌝ }
     requires { ⌜ Open k (now letter) (now low) (now high) (now index) used × AllUsed 26 values used × AllUsed 26 touched used × Bits k (held (now letter) (now low) (now high) used) values (firstNodeNumber + atPlace (now net) nodesPlace) ⌝ }
-    ensures { λ r. ⌜ (stopped (r .stop) ≡ false → KeptAll (netCircuit (now (net .entry))) (atPlace (now (net .entry)) nodesPlace) k (held (now (letter .entry)) (now (low .entry)) (now (high .entry)) used) values touched (atPlace (now (net .entry)) transistorsPlace) (now (letter .exit)) (now (low .exit)) (now (high .exit)) (now (index .exit)) (r .used) (r .entries)) × (stopped (r .stop) ≡ true → Crowded k (held (now (letter .entry)) (now (low .entry)) (now (high .entry)) used) (now (letter .exit)) (now (low .exit)) (now (high .exit)) (now (index .exit))) ⌝ }
+    ensures { λ r. ⌜ (stopped (r .stop) ≡ false → KeptLooped (netCircuit (now (net .entry))) (atPlace (now (net .entry)) nodesPlace) k (held (now (letter .entry)) (now (low .entry)) (now (high .entry)) used) values touched count (now (letter .exit)) (now (low .exit)) (now (high .exit)) (now (index .exit)) (r .used) (r .entries)) × (stopped (r .stop) ≡ true → Crowded k (held (now (letter .entry)) (now (low .entry)) (now (high .entry)) used) (now (letter .exit)) (now (low .exit)) (now (high .exit)) (now (index .exit))) ⌝ }
 {
-    let count = net[net::TRANSISTORS];
     let mut joined = identity();
     let mut out = [0u32; 64];
     let mut now = used;
@@ -175,7 +176,7 @@ pub fn keep_all(
             net,
             values,
             touched,
-            joined,
+            &joined,
             letter,
             low,
             high,
@@ -195,7 +196,18 @@ pub fn keep_all(
         let e = p.entry;
         out[i as usize] = e;
         now = p.used;
-        let next = link_kept(net, letter, low, high, index, &mut now, k, i, e, joined);
+        link_kept(
+            net,
+            letter,
+            low,
+            high,
+            index,
+            &mut now,
+            k,
+            i,
+            e,
+            &mut joined,
+        );
         if now == 0 {
             return Kept {
                 stop: Stop::Full,
@@ -203,7 +215,6 @@ pub fn keep_all(
                 entries: out,
             };
         }
-        joined = next;
         i += 1;
     }
     Kept {

@@ -19,14 +19,15 @@ ghost use Rattle.prepare.specs.Steps.{Bits};
 ghost use Rattle.prepare.specs.Roots.{NodeRoots, KeptRoots, Roots};
 
 pub mod keep;
+pub mod open;
 pub mod touch;
 
-use keep::keep_all;
 use net::inner::is_inner;
 use net::roots::ALL_PENDING;
 use net::roots::ALL_ROOTS;
 use net::roots::KEPT;
 use net::roots::TOUCHED;
+use open::keep_all;
 use table::Stop;
 use table::stopped;
 use touch::touch_all;
@@ -174,7 +175,6 @@ pub fn prepare(
         k,
         before,
         after,
-        values,
         all,
         only,
     );

@@ -11,7 +11,7 @@ ghost use Rattle.diagram.specs.Table.{numberAt};
 ghost use Rattle.diagram.specs.Held.{held};
 ghost use Rattle.table.specs.Stop.{stopped};
 ghost use Rattle.functions.specs.Open.{Open, Legible};
-ghost use Rattle.working.specs.Grown.{Means, bit, Crowded, Grown};
+ghost use Rattle.working.specs.Grown.{bit, Crowded, Grown};
 ghost use Rattle.working.specs.Many.{AllUsed, Filled};
 ghost use Rattle.net.specs.Net.{nodesPlace, transistorsPlace, at as atPlace, netTransistor, netCircuit};
 ghost use Rattle.net.specs.Laid.{Laid};
@@ -54,7 +54,8 @@ fn input_changed(net: &[u32], changed: [u32; 26], n: u32) -> u32
     if role == 1 { changed[at] } else { 0 }
 }
 
-// `z`, or where transistor i is disturbed: its gate changed, or an input at a channel end did.
+// `z`, or where transistor i is disturbed: its gate changed, or an input at a channel end did. A change selects: where it is entry 0, `either`
+// answers at once.
 fn touch(
     net: &[u32],
     changed: [u32; 26],
@@ -75,17 +76,17 @@ fn touch(
     let gate = net[net::GATE + at] as usize;
     let a = input_changed(net, changed, net[net::FIRST + at]);
     let b = input_changed(net, changed, net[net::SECOND + at]);
-    let p = either(letter, low, high, index, used, k, z, changed[gate]);
+    let p = either(letter, low, high, index, used, k, changed[gate], z);
     let why = p.stop;
     if stopped(why) {
         return p;
     }
-    let q = either(letter, low, high, index, p.used, k, p.entry, a);
+    let q = either(letter, low, high, index, p.used, k, a, p.entry);
     let why = q.stop;
     if stopped(why) {
         return q;
     }
-    either(letter, low, high, index, q.used, k, q.entry, b)
+    either(letter, low, high, index, q.used, k, b, q.entry)
 }
 
 // The same for the group g of transistor i, if it is a considered one; else `z` alone.
@@ -220,13 +221,12 @@ pub fn touch_all(
     k: u32,
     before: [u32; 26],
     after: [u32; 26],
-    values: [u32; 26],
     all: bool,
     only: usize,
 ) -> Many
     requires { ⌜ Laid (netCircuit (now net)) (now net) ⌝ }
-    requires { ⌜ Legible k (now tletter) (now tlow) (now thigh) tused × AllUsed (firstNodeNumber + atPlace (now net) nodesPlace) before tused × Bits k (held (now tletter) (now tlow) (now thigh) tused) before (firstNodeNumber + atPlace (now net) nodesPlace) × Bits k (held (now tletter) (now tlow) (now thigh) tused) after (firstNodeNumber + atPlace (now net) nodesPlace) ⌝ }
-    requires { ⌜ Open k (now letter) (now low) (now high) (now index) used × ((n : ℕ) → n < firstNodeNumber + atPlace (now net) nodesPlace → Means k (held (now letter) (now low) (now high) used) (getD values n 0) (numberAt k (held (now tletter) (now tlow) (now thigh) tused) (getD after n 0))) ⌝ }
+    requires { ⌜ Legible k (now tletter) (now tlow) (now thigh) tused × AllUsed (firstNodeNumber + atPlace (now net) nodesPlace) before tused × AllUsed (firstNodeNumber + atPlace (now net) nodesPlace) after tused ⌝ }
+    requires { ⌜ Open k (now letter) (now low) (now high) (now index) used ⌝ }
     ensures { λ r. ⌜ (stopped (r .stop) ≡ false → Filled 26 k (held (now (letter .entry)) (now (low .entry)) (now (high .entry)) used) (λ g p. bit (touchedLabel (netCircuit (now (net .entry))) (firstNodeNumber + atPlace (now (net .entry)) nodesPlace) k (held (now (tletter .entry)) (now (tlow .entry)) (now (thigh .entry)) tused) before after all only p g)) (now (letter .exit)) (now (low .exit)) (now (high .exit)) (now (index .exit)) (r .used) (r .entries)) × (stopped (r .stop) ≡ true → Crowded k (held (now (letter .entry)) (now (low .entry)) (now (high .entry)) used) (now (letter .exit)) (now (low .exit)) (now (high .exit)) (now (index .exit))) ⌝ }
 {
     if all {
@@ -250,7 +250,6 @@ pub fn touch_all(
         k,
         before,
         after,
-        values,
         count,
     );
     let why = ch.stop;

@@ -2,7 +2,7 @@
 use mathlib.Core.Path.{_≡_, refl, sym, _∙_, ap, subst₂}
 use mathlib.Core.List.{List}
 use mathlib.Core.Bool.{true, false, true≢false, cond}
-use Prim.Native.Nat.{ℕ, suc, _-_, _<_, _≤_}
+use Prim.Native.Nat.{ℕ, zero, suc, _-_, _<_, _≤_}
 use native.Mathlib.Omega.{arith}
 use lib.ListN.{length, getD}
 use lib.Dec.{eqb}
@@ -14,7 +14,7 @@ use Rattle.diagram.specs.Operation.{chosen}
 use Rattle.diagram.specs.Held.{held}
 use Rattle.diagram.proofs.Sound.{Branch, Sound}
 use Rattle.diagram.proofs.Add.{Extends, extends-refl, extends-trans}
-use Rattle.diagram.proofs.Number.{part-low, part-high, number-terminal, numberAt-extends, number-zeroth, number-first}
+use Rattle.diagram.proofs.Number.{part-low, part-high, number-terminal, numberAt-extends, number-zeroth, number-first, number-second}
 use Rattle.diagram.proofs.Store.{IsStored, store-stored, store-number}
 use Rattle.diagram.proofs.Shannon.{split, store-halves, number-past, number-split}
 use Rattle.table.specs.declared.Put.{Put}
@@ -132,19 +132,12 @@ module _ {letters : ℕ} {l w h ix : List ℕ} {used : ℕ} (o : Open letters l 
   pub grown-entry : {f : ℕ → ℕ} {l2 w2 h2 ix2 : List ℕ} {r : Put} → Grown letters (held l w h used) f l2 w2 h2 ix2 r → stopped (r .stop) ≡ false → r .entry < r .used
   grown-entry g room = omega (arith, g .means room .within, open-long (g .opened room))
 
-  -- what an entry meant it still means
-  pub grown-means : {f g : ℕ → ℕ} {l2 w2 h2 ix2 : List ℕ} {r : Put} {e : ℕ} → Grown letters (held l w h used) f l2 w2 h2 ix2 r → stopped (r .stop) ≡ false → Means letters (held l w h used) e g
-      → Means letters (held l2 w2 h2 (r .used)) e g
-  grown-means g room m = means-extends (open-few o) (open-sound o) (g .extends room) m
-
--- a choice between the opposite and the function itself
-pub differ-grown : {letters : ℕ} {l w h ix l1 w1 h1 ix1 l2 w2 h2 ix2 : List ℕ} {used a b : ℕ} {q r : Put} (o : Open letters l w h ix used) → a < used → b < used
-    → (g : Grown letters (held l w h used) (λ p. cond (eqb (numberAt letters (held l w h used) b p) 1) 0 1) l1 w1 h1 ix1 q) → stopped (q .stop) ≡ false
-    → Outcome (held l1 w1 h1 (q .used)) (store letters 0 (chosen letters (held l1 w1 h1 (q .used)) a (q .entry) b) (held l1 w1 h1 (q .used))) l2 w2 h2 ix2 r
-    → Grown letters (held l w h used) (λ p. cond (eqb (numberAt letters (held l w h used) a p) 1) (cond (eqb (numberAt letters (held l w h used) b p) 1) 0 1) (numberAt letters (held l w h used) b p)) l2 w2 h2 ix2 r
-differ-grown {a = a} {b} o ha hb g room z =
-    grown-then g room
-    (grown-same (outcome-grown (g .opened room) z) (λ p h. rw (grown-number o g room a p ha, g .means room .number p h, grown-number o g room b p hb)))
+-- the first three entries are the same terminals in every sound table
+fixed-number : {letters : ℕ} (t u : Table) → letters ≤ mostLetters → Sound letters t → Sound letters u → (e p : ℕ) → e < 3 → numberAt letters u e p ≡ numberAt letters t e p
+fixed-number t u few s su zero p small = number-zeroth u p few su ∙ sym (number-zeroth t p few s)
+fixed-number t u few s su (suc zero) p small = number-first u p few su ∙ sym (number-first t p few s)
+fixed-number t u few s su (suc (suc zero)) p small = number-second u p few su ∙ sym (number-second t p few s)
+fixed-number t u few s su (suc (suc (suc e))) p small = absurd (omega arith)
 
 -- Bringing an entry of one table into another.
 module _ {letters : ℕ} {tl tw th : List ℕ} {tused : ℕ} (lent : Legible letters tl tw th tused) {left e : ℕ} (x : Operand letters (held tl tw th tused) tused left e) where
@@ -156,6 +149,10 @@ module _ {letters : ℕ} {tl tw th : List ℕ} {tused : ℕ} (lent : Legible let
 
   inside : e < length t
   inside = omega (arith, x .within, legible-long lent)
+
+  -- one of the first three entries
+  pub bring-fixed : {u : Table} → Sound letters u → e < 3 → Means letters u e (numberAt letters (held tl tw th tused) e)
+  bring-fixed {u} su small = record { within = omega (arith, su .three); number = λ p _. fixed-number t u (lent .few) sound su e p small }
 
   -- a terminal
   bring-terminal : (u : Table) → getD tl e 0 ≡ terminalLetter → store letters 0 (numberAt letters (held tl tw th tused) e) u ≡ add (terminal (getD tw e 0)) u

@@ -6,10 +6,12 @@ use Prim.Native.Nat.{ℕ, _<_}
 use native.Mathlib.Omega.{arith}
 use lib.ListN.{getD}
 use lib.Dec.{eqb}
+use borrow.Author.Tests.{eqb-true}
+use Rattle.lists.proofs.Cases.{and-left, and-right}
 use Rattle.diagram.specs.Pattern.{patterns}
 use Rattle.diagram.specs.Table.{Table, numberAt}
 use Rattle.diagram.specs.Held.{held}
-use Rattle.diagram.proofs.Add.{Extends, extends-trans}
+use Rattle.diagram.proofs.Add.{Extends, extends-refl, extends-trans}
 use Rattle.diagram.proofs.Number.{number-zeroth}
 use Rattle.table.specs.declared.Put.{Put}
 use Rattle.table.specs.declared.Stop.the-variants.{Going}
@@ -17,7 +19,7 @@ use Rattle.table.specs.Stop.{stopped}
 use Rattle.functions.specs.Open.{Open}
 use Rattle.working.specs.Grown.{bit, Grown}
 use Rattle.working.specs.Many.{AllUsed, Filled, cell, also, linkedNumber}
-use Rattle.working.proofs.Grow.{open-few, open-sound, grown-same, grown-then, grown-there, grown-number, grown-entry}
+use Rattle.working.proofs.Grow.{means-same, open-few, open-sound, grown-same, grown-then, grown-there, grown-number, grown-entry}
 use Rattle.working.proofs.Fill.{means-own, number-kept, filled-same, filled-from, RowsFilling, rows-old}
 
 -- an entry that is 0 adds nothing
@@ -88,6 +90,14 @@ linked-bits false false xa by xb ay = refl
 pub linked-none : (k xy xa by xb ay : ℕ) → k ≡ 0 → linkedNumber k xy xa by xb ay ≡ xy
 linked-none k xy xa by xb ay e = rw e
 
+-- a node that is joined with neither end stays as it is
+linked-apart : (k xy xa by xb ay : ℕ) → xa ≡ 0 → xb ≡ 0 → linkedNumber k xy xa by xb ay ≡ xy
+linked-apart k xy xa by xb ay ea eb = rw (ea, eb) (either (eqb k 1))
+  where
+    either : (x : Bool) → also (also xy (cond x 0 0) ay) (cond x 0 0) by ≡ xy
+    either true = refl
+    either false = refl
+
 -- a cell's numbers in an extension
 pub cell-kept : {letters : ℕ} {l w h ix : List ℕ} {used : ℕ} (o : Open letters l w h ix used) {u : Table} (x : Extends (held l w h used) u) {xy xa by xb ay : ℕ} → xy < used → xa < used → by < used → xb < used → ay < used → (p : ℕ)
     → also (also (numberAt letters u xy p) (numberAt letters u xb p) (numberAt letters u ay p)) (numberAt letters u xa p) (numberAt letters u by p)
@@ -119,6 +129,17 @@ module _ {letters : ℕ} {l w h ix : List ℕ} {used : ℕ} (o : Open letters l 
         grown-number o g room eb z heb,
       )))
       x
+
+  -- a row that has nothing with the ends
+  pub row-stays : (kept a b : ℕ) (row first second : List ℕ) → AllUsed 24 row used → (eqb (getD row a 0) 0 && eqb (getD row b 0) 0) ≡ true
+      → Filled 24 letters (held l w h used) (λ y z. linkedNumber (numberAt letters (held l w h used) kept z) (numberAt letters (held l w h used) (getD row y 0) z) (numberAt letters (held l w h used) (getD row a 0) z) (numberAt letters (held l w h used) (getD second y 0) z) (numberAt letters (held l w h used) (getD row b 0) z) (numberAt letters (held l w h used) (getD first y 0) z)) l w h ix used row
+  row-stays kept a b row first second hr none =
+      let n : ℕ → ℕ → ℕ = numberAt letters (held l w h used) in
+      let ea : ℕ = getD row a 0 in
+      let eb : ℕ = getD row b 0 in
+      let za : ea ≡ 0 = eqb-true ea 0 (and-left (eqb ea 0) (eqb eb 0) none) in
+      let zb : eb ≡ 0 = eqb-true eb 0 (and-right (eqb ea 0) (eqb eb 0) none) in
+      record { opened = o; extends = extends-refl _; means = λ y hy. means-same (means-own o (hr y hy)) (λ p _. sym (linked-apart (n kept p) (n (getD row y 0) p) (n ea p) (n (getD second y 0) p) (n eb p) (n (getD first y 0) p) (zero-is o za p) (zero-is o zb p))) }
 
   -- a row that is still the old one, in an extension
   pub row-kept : (joined : List (List ℕ)) (kept a b : ℕ) {new : ℕ → ℕ → ℕ → ℕ} {l2 w2 h2 ix2 : List ℕ} {used2 n : ℕ} {out : List (List ℕ)}

@@ -5,119 +5,17 @@ ghost use mathlib.Core.Bool.{cond};
 ghost use Prim.Native.Nat.{_<_, _≤_};
 ghost use lib.Dec.{eqb};
 ghost use Rattle.diagram.specs.Table.{numberAt};
-ghost use Rattle.diagram.specs.Store.{store};
 ghost use Rattle.diagram.specs.Held.{held};
-ghost use Rattle.table.specs.Holds.{Sized, Outcome, Empty};
-ghost use Rattle.functions.specs.Open.{Legible, Open, Operand};
+ghost use Rattle.table.specs.Holds.{Sized, Empty};
+ghost use Rattle.functions.specs.Open.{Open};
 ghost use Rattle.working.specs.Grown.{Grown};
 
+pub mod lent;
 pub mod link;
 pub mod many;
 
 use functions::choose::choose;
-use functions::numbers::TERMINAL;
-use functions::step::join;
 use table::Put;
-use table::stopped;
-
-// The function of entry `e` of the lent table, whose letters are among the last `left` of the k.
-fn bring_part(
-    tletter: &[u32],
-    tlow: &[u32],
-    thigh: &[u32],
-    tused: u32,
-    letter: &mut [u32],
-    low: &mut [u32],
-    high: &mut [u32],
-    index: &mut [u32],
-    used: u32,
-    k: u32,
-    e: u32,
-    left: u32,
-) -> Put
-    requires { ⌜ Legible k (now tletter) (now tlow) (now thigh) tused × Operand k (held (now tletter) (now tlow) (now thigh) tused) tused left e ⌝ }
-    requires { ⌜ Open k (now letter) (now low) (now high) (now index) used ⌝ }
-    ensures { λ r. ⌜ Outcome (held (now (letter .entry)) (now (low .entry)) (now (high .entry)) used) (store k 0 (numberAt k (held (now (tletter .entry)) (now (tlow .entry)) (now (thigh .entry)) tused) e) (held (now (letter .entry)) (now (low .entry)) (now (high .entry)) used)) (now (letter .exit)) (now (low .exit)) (now (high .exit)) (now (index .exit)) r ⌝ }
-{
-    let i = e as usize;
-    let m = tletter[i];
-    let a = tlow[i];
-    let b = thigh[i];
-    if m == TERMINAL {
-        return table::add(letter, low, high, index, used, TERMINAL, a, 0);
-    }
-    let p = bring_part(
-        tletter,
-        tlow,
-        thigh,
-        tused,
-        letter,
-        low,
-        high,
-        index,
-        used,
-        k,
-        a,
-        left - 1,
-    );
-    let why = p.stop;
-    if stopped(why) {
-        return p;
-    }
-    let q = bring_part(
-        tletter,
-        tlow,
-        thigh,
-        tused,
-        letter,
-        low,
-        high,
-        index,
-        p.used,
-        k,
-        b,
-        left - 1,
-    );
-    let why = q.stop;
-    if stopped(why) {
-        return q;
-    }
-    join(letter, low, high, index, q.used, m, p.entry, q.entry)
-}
-
-// The function of entry `e` of the lent table.
-pub fn bring(
-    tletter: &[u32],
-    tlow: &[u32],
-    thigh: &[u32],
-    tused: u32,
-    letter: &mut [u32],
-    low: &mut [u32],
-    high: &mut [u32],
-    index: &mut [u32],
-    used: u32,
-    k: u32,
-    e: u32,
-) -> Put
-    requires { ⌜ Legible k (now tletter) (now tlow) (now thigh) tused × (e < tused) ⌝ }
-    requires { ⌜ Open k (now letter) (now low) (now high) (now index) used ⌝ }
-    ensures { λ r. ⌜ Grown k (held (now (letter .entry)) (now (low .entry)) (now (high .entry)) used) (numberAt k (held (now (tletter .entry)) (now (tlow .entry)) (now (thigh .entry)) tused) e) (now (letter .exit)) (now (low .exit)) (now (high .exit)) (now (index .exit)) r ⌝ }
-{
-    bring_part(
-        tletter,
-        tlow,
-        thigh,
-        tused,
-        letter,
-        low,
-        high,
-        index,
-        used,
-        k,
-        e,
-        k,
-    )
-}
 
 // Both: `b` where `a` is 1, else 0.
 pub fn both(
@@ -186,37 +84,11 @@ pub fn opposite(
     choose(letter, low, high, index, used, k, a, 0, 1, k)
 }
 
-// Where two functions differ: the opposite of `b` where `a` is 1, else `b`.
-pub fn differ(
-    letter: &mut [u32],
-    low: &mut [u32],
-    high: &mut [u32],
-    index: &mut [u32],
-    used: u32,
-    k: u32,
-    a: u32,
-    b: u32,
-) -> Put
-    requires { ⌜ Open k (now letter) (now low) (now high) (now index) used × (a < used) × (b < used) ⌝ }
-    ensures { λ r. ⌜ Grown k (held (now (letter .entry)) (now (low .entry)) (now (high .entry)) used) (λ p. cond (eqb (numberAt k (held (now (letter .entry)) (now (low .entry)) (now (high .entry)) used) a p) 1) (cond (eqb (numberAt k (held (now (letter .entry)) (now (low .entry)) (now (high .entry)) used) b p) 1) 0 1) (numberAt k (held (now (letter .entry)) (now (low .entry)) (now (high .entry)) used) b p)) (now (letter .exit)) (now (low .exit)) (now (high .exit)) (now (index .exit)) r ⌝ }
-{
-    let q = opposite(letter, low, high, index, used, k, b);
-    let why = q.stop;
-    if stopped(why) {
-        return q;
-    }
-    choose(letter, low, high, index, q.used, k, a, q.entry, b, k)
-}
-
 // Zeros in an index.
 fn blank(index: &mut [u32])
     ensures { λ _. ⌜ Empty (now (index .exit)) ⌝ }
 {
-    let mut i = 0;
-    while i < index.len() {
-        index[i] = 0;
-        i += 1;
-    }
+    table::clear_column(index, 0);
 }
 
 // A fresh working table, whatever the columns and the index held.

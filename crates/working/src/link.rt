@@ -125,7 +125,7 @@ fn link_cells(
     }
 }
 
-// A row after a transistor between `a` and `b`, whose own rows come along.
+// A row after a transistor between `a` and `b`, whose own rows come along. A row that is nowhere joined with an end stays.
 fn link_row(
     letter: &mut [u32],
     low: &mut [u32],
@@ -143,7 +143,16 @@ fn link_row(
     requires { ⌜ Open k (now letter) (now low) (now high) (now index) used × (kept < used) × (a < 24) × (b < 24) × AllUsed 24 row used × AllUsed 24 first used × AllUsed 24 second used ⌝ }
     ensures { λ r. ⌜ (stopped (r .stop) ≡ false → Filled 24 k (held (now (letter .entry)) (now (low .entry)) (now (high .entry)) used) (λ y p. linkedNumber (numberAt k (held (now (letter .entry)) (now (low .entry)) (now (high .entry)) used) kept p) (numberAt k (held (now (letter .entry)) (now (low .entry)) (now (high .entry)) used) (getD row y 0) p) (numberAt k (held (now (letter .entry)) (now (low .entry)) (now (high .entry)) used) (getD row a 0) p) (numberAt k (held (now (letter .entry)) (now (low .entry)) (now (high .entry)) used) (getD second y 0) p) (numberAt k (held (now (letter .entry)) (now (low .entry)) (now (high .entry)) used) (getD row b 0) p) (numberAt k (held (now (letter .entry)) (now (low .entry)) (now (high .entry)) used) (getD first y 0) p)) (now (letter .exit)) (now (low .exit)) (now (high .exit)) (now (index .exit)) (r .used) (r .row)) × (stopped (r .stop) ≡ true → Crowded k (held (now (letter .entry)) (now (low .entry)) (now (high .entry)) used) (now (letter .exit)) (now (low .exit)) (now (high .exit)) (now (index .exit))) ⌝ }
 {
-    let p = both(letter, low, high, index, used, k, kept, row[a]);
+    let xa = row[a];
+    let xb = row[b];
+    if (xa == 0) & (xb == 0) {
+        return Row {
+            stop: Stop::Going,
+            used,
+            row,
+        };
+    }
+    let p = both(letter, low, high, index, used, k, kept, xa);
     let why = p.stop;
     if stopped(why) {
         return Row {
@@ -152,7 +161,7 @@ fn link_row(
             row,
         };
     }
-    let q = both(letter, low, high, index, p.used, k, kept, row[b]);
+    let q = both(letter, low, high, index, p.used, k, kept, xb);
     let why = q.stop;
     if stopped(why) {
         return Row {

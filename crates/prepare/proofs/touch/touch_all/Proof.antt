@@ -18,7 +18,7 @@ every-group-requires : tie.Need-every-group-requires
 every-group-requires c κs = search needs
 
 returns : tie.Need-returns
-returns c = ((λ z. touch-every (netCircuit (c .before .before .before .before .before .before .before .before .before .before .args .net .now)) (2 + at (c .before .before .before .before .before .before .before .before .before .before .args .net .now) 0) (held (c .before .before .before .before .before .before .before .before .before .before .args .tletter .now) (c .before .before .before .before .before .before .before .before .before .before .args .tlow .now) (c .before .before .before .before .before .before .before .before .before .before .args .thigh .now) (c .before .before .before .before .before .before .before .before .before .before .args .tused)) (c .before .before .before .before .before .before .before .before .before .before .args .before) (c .before .before .before .before .before .before .before .before .before .before .args .after) (c .before .before .before .before .before .before .before .before .before .before .args .all) (c .before .before .before .before .before .before .before .before .before .before .args .only) (c .before .if1 .taken) (c .before .before .before .before .before .before .before .before .before .before .pre .1 .1 .0) (c .every-group .ensures)), (λ z. absurd (true≢false (sym z))))
+returns c = ((λ z. touch-every (netCircuit (c .before .before .before .before .before .before .before .before .before .before .args .net .now)) (2 + at (c .before .before .before .before .before .before .before .before .before .before .args .net .now) 0) (held (c .before .before .before .before .before .before .before .before .before .before .args .tletter .now) (c .before .before .before .before .before .before .before .before .before .before .args .tlow .now) (c .before .before .before .before .before .before .before .before .before .before .args .thigh .now) (c .before .before .before .before .before .before .before .before .before .before .args .tused)) (c .before .before .before .before .before .before .before .before .before .before .args .before) (c .before .before .before .before .before .before .before .before .before .before .args .after) (c .before .before .before .before .before .before .before .before .before .before .args .all) (c .before .before .before .before .before .before .before .before .before .before .args .only) (c .before .if1 .taken) (c .before .before .before .before .before .before .before .before .before .before .pre .1 .1) (c .every-group .ensures)), (λ z. absurd (true≢false (sym z))))
 
 shared-slice-read-count : tie.Need-shared-slice-read-count
 shared-slice-read-count c = omega (arith, c .before .before .before .before .before .before .before .before .before .before .pre .0 .long)
@@ -30,7 +30,7 @@ add-count : tie.Need-add-count
 add-count c = omega (arith, c .before .before .before .before .before .before .before .before .before .before .pre .0 .within .nodes)
 
 changed-all-requires : tie.Need-changed-all-requires
-changed-all-requires c κs = ((c .before .before .before .before .before .before .before .before .before .before .before .before .before .before .pre .1 .0 .0, (λ n hn. c .before .before .before .before .before .before .before .before .before .before .before .before .before .before .pre .1 .0 .1 n (omega arith)), omega (arith, c .before .before .before .before .before .before .before .before .before .before .before .before .before .before .pre .0 .within .nodes), (λ n p hn hp. c .before .before .before .before .before .before .before .before .before .before .before .before .before .before .pre .1 .0 .2 n p (omega arith) hp), (λ n p hn hp. c .before .before .before .before .before .before .before .before .before .before .before .before .before .before .pre .1 .0 .3 n p (omega arith) hp)), (c .before .before .before .before .before .before .before .before .before .before .before .before .before .before .pre .1 .1 .0, (λ n hn. c .before .before .before .before .before .before .before .before .before .before .before .before .before .before .pre .1 .1 .1 n (omega arith))))
+changed-all-requires c κs = ((c .before .before .before .before .before .before .before .before .before .before .before .before .before .before .pre .1 .0 .0, (λ n hn. c .before .before .before .before .before .before .before .before .before .before .before .before .before .before .pre .1 .0 .1 n (omega arith)), (λ n hn. c .before .before .before .before .before .before .before .before .before .before .before .before .before .before .pre .1 .0 .2 n (omega arith)), omega (arith, c .before .before .before .before .before .before .before .before .before .before .before .before .before .before .pre .0 .within .nodes)), c .before .before .before .before .before .before .before .before .before .before .before .before .before .before .pre .1 .1)
 
 stopped-requires : tie.Need-stopped-requires
 stopped-requires c κs = search needs
