@@ -67,6 +67,7 @@ fn part(entries: &[u32; ROOTS], from: usize) -> [u32; 26]
 }
 
 // Node n by the functions of its group in a working table; where it has no room for them, nothing is stored.
+// The table takes no more entries by then, so that the descent's memo may lie in its index.
 fn attempt_in(
     net: &[u32],
     letter: &mut [u32],
@@ -135,6 +136,7 @@ fn attempt_in(
         n,
         &roots,
         k,
+        windex,
     );
     Tried { done: true, put }
 }

@@ -1,3 +1,4 @@
+pub mod Cached
 pub mod Placed
 pub mod Single
 pub mod Rooting

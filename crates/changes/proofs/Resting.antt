@@ -19,10 +19,15 @@ use Rattle.table.specs.Holds.{Outcome}
 use Rattle.functions.specs.Open.{Open, Operand}
 use Rattle.functions.proofs.Carry.{legible-sound, legible-long, letter-at, low-at, high-at}
 use Rattle.functions.proofs.Halving.{Halves}
+use Rattle.functions.proofs.Known.{Stable}
 use Rattle.working.proofs.Grow.{bring-high}
 use Rattle.plain.specs.Settle.{pendingAfter}
 use Rattle.values.proofs.Series.{Storing, storing-number}
-use Rattle.changes.specs.Rest.{pastOf, restWith, restOf}
+use Rattle.changes.specs.Rest.{pastOf, passes, restWith, restOf}
+
+-- an entry with T taken out is the same in every extension
+pub past-stable : {letters : ℕ} (time : ℕ) → Stable letters (passes time letters)
+past-stable time = record { same = λ few s x e b c p he hb hc. ap (pendingAfter time) (numberAt-extends e p few s x he) }
 
 module _ {letters : ℕ} {l w h ix : List ℕ} {used : ℕ} (o : Open letters l w h ix used) (time : ℕ) {left e : ℕ} (x : Operand letters (held l w h used) used left e) where
   abbrev t : Table

@@ -23,6 +23,10 @@ stirredFor c before after n = some (λ (t : Transistor). ofGroup c n t && distur
 abbrev pub pastOf : ℕ → ℕ → Table → ℕ → ℕ → ℕ
 pastOf time letters t e p = pendingAfter time (numberAt letters t e p)
 
+-- the same as an operation on entries: there is no second and no third operand
+abbrev pub passes : ℕ → ℕ → Table → (e b c : ℕ) → ℕ → ℕ
+passes time letters t e b c p = pastOf time letters t e p
+
 -- the next change of node n by pending change e: an input has none
 abbrev pub restWith : Circuit → ℕ → ℕ → Table → ℕ → ℕ → ℕ → ℕ
 restWith c time letters t e n p = cond (isInner c n) (pastOf time letters t e p) never

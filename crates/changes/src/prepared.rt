@@ -28,6 +28,7 @@ pub struct Tried {
 }
 
 // By functions in the columns lent; where these have no room for them, nothing is stored.
+// They take no more entries once all functions are there, so that the descents' memo may lie in their index.
 fn try_in(
     net: &[u32],
     letter: &mut [u32],
@@ -98,6 +99,7 @@ fn try_in(
         marks,
         pending,
         least,
+        windex,
     );
     Tried { done: true, many }
 }

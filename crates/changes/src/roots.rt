@@ -25,7 +25,7 @@ ghost use Rattle.changes.specs.Changes.{PendingEntries, PendingLeasts};
 ghost use Rattle.changes.specs.ByRoots.{settledFor, StepRoots};
 ghost use Rattle.changes.specs.Mixed.{mixedWith, mixedOf};
 
-// The next change of node n.
+// The next change of node n. The descent's memo lies in `memo`, which may hold anything.
 fn by_roots(
     net: &[u32],
     wletter: &[u32],
@@ -40,6 +40,7 @@ fn by_roots(
     time: u32,
     n: u32,
     roots: [u32; ALL_ROOTS],
+    memo: &mut [u32],
 ) -> Put
     requires { ⌜ StepRoots (now net) (now wletter) (now wlow) (now whigh) wused roots × Noded (now net) n × Open (atPlace (now net) lettersPlace) (now letter) (now low) (now high) (now index) used ⌝ }
     ensures { λ r. ⌜ Outcome (held (now (letter .entry)) (now (low .entry)) (now (high .entry)) used) (store (atPlace (now (net .entry)) lettersPlace) 0 (settledFor (netCircuit (now (net .entry))) time (atPlace (now (net .entry)) lettersPlace) (held (now (wletter .entry)) (now (wlow .entry)) (now (whigh .entry)) wused) roots n) (held (now (letter .entry)) (now (low .entry)) (now (high .entry)) used)) (now (letter .exit)) (now (low .exit)) (now (high .exit)) (now (index .exit)) r ⌝ }
@@ -69,6 +70,7 @@ fn by_roots(
         n,
         &own,
         k,
+        memo,
     )
 }
 
@@ -90,6 +92,7 @@ fn by_mark(
     mark: u32,
     e: u32,
     least: &[u32],
+    memo: &mut [u32],
 ) -> Put
     requires { ⌜ StepRoots (now net) (now wletter) (now wlow) (now whigh) wused roots × Noded (now net) n × Open (atPlace (now net) lettersPlace) (now letter) (now low) (now high) (now index) used × (e < used) × Leasts (atPlace (now net) lettersPlace) (held (now letter) (now low) (now high) used) (suc e) (now least) ⌝ }
     ensures { λ r. ⌜ Outcome (held (now (letter .entry)) (now (low .entry)) (now (high .entry)) used) (store (atPlace (now (net .entry)) lettersPlace) 0 (mixedWith (netCircuit (now (net .entry))) time (atPlace (now (net .entry)) lettersPlace) (held (now (letter .entry)) (now (low .entry)) (now (high .entry)) used) (held (now (wletter .entry)) (now (wlow .entry)) (now (whigh .entry)) wused) roots mark e n) (held (now (letter .entry)) (now (low .entry)) (now (high .entry)) used)) (now (letter .exit)) (now (low .exit)) (now (high .exit)) (now (index .exit)) r ⌝ }
@@ -111,6 +114,7 @@ fn by_mark(
         time,
         n,
         roots,
+        memo,
     )
 }
 
@@ -131,6 +135,7 @@ pub fn all_by_marks(
     marks: [u32; 26],
     pending: [u32; 26],
     least: &[u32],
+    memo: &mut [u32],
 ) -> Many
     requires { ⌜ StepRoots (now net) (now wletter) (now wlow) (now whigh) wused roots × Open (atPlace (now net) lettersPlace) (now letter) (now low) (now high) (now index) used × PendingEntries used pending × PendingLeasts (atPlace (now net) lettersPlace) (held (now letter) (now low) (now high) used) pending (now least) ⌝ }
     ensures { λ r. ⌜ OutcomeAll (held (now (letter .entry)) (now (low .entry)) (now (high .entry)) used) (storeAll (atPlace (now (net .entry)) lettersPlace) (map (mixedOf (netCircuit (now (net .entry))) time (atPlace (now (net .entry)) lettersPlace) (held (now (letter .entry)) (now (low .entry)) (now (high .entry)) used) (held (now (wletter .entry)) (now (wlow .entry)) (now (whigh .entry)) wused) roots marks pending) (nodeNumbers (netCircuit (now (net .entry))))) (held (now (letter .entry)) (now (low .entry)) (now (high .entry)) used)) (now (letter .exit)) (now (low .exit)) (now (high .exit)) (now (index .exit)) (r .stop) (r .used) (r .entries) ⌝ }
@@ -157,6 +162,7 @@ pub fn all_by_marks(
             marks[i + 2],
             pending[i + 2],
             least,
+            memo,
         );
         let why = p.stop;
         if stopped(why) {

@@ -6,7 +6,7 @@ use mathlib.Core.Bool.{Bool, true, false, cond}
 use Prim.Native.Nat.{ℕ, _+_, _<_, _≤_}
 use native.Mathlib.Omega.{arith}
 use lib.ListN.{length, getD, set, length-set, replicate, getD-replicate}
-use lib.Seq.{getD-set-same, getD-set-other}
+use lib.Seq.{getD-set-same, getD-set-other, ext-getD}
 use lib.Dec.{eqb}
 use borrow.Author.Tests.{eqb-true, ne-eqb}
 use Rattle.lists.proofs.Cases.{bool-cases, lt-or-ge, eq-or-ne}
@@ -200,3 +200,39 @@ numbers-done {low} {roots} {live} {count} r zero f end = record {
   long = f .long;
   is = at-all f end (λ j h. ⊎-elim (λ (z : getD roots j 0 ≡ 0). inl (ap (λ (e : ℕ). getD low e 0) z ∙ zero)) (λ (l : Listed live count j). inr l) (r .listed j h));
 }
+
+-- the first i places of a list are copied
+pub record ListedTo (live : List ℕ) (i : ℕ) (list : List ℕ) : Type 0 where
+  pub long : length list ≡ rootsLength
+  pub done : (n : ℕ) → n < i → getD list n 0 ≡ getD live n 0
+
+pub listed-none : {live list : List ℕ} → length list ≡ rootsLength → ListedTo live 0 list
+listed-none long = record { long = long; done = λ n h. absurd (omega arith) }
+
+pub listed-next : {live list : List ℕ} {i : ℕ} → ListedTo live i list → i < rootsLength → ListedTo live (i + 1) (set list i (getD live i 0))
+listed-next {live} {list} {i} f small =
+    let v : ℕ = getD live i 0 in
+    record {
+      long = length-set list i v ∙ f .long;
+      done = λ n h.
+          ⊎-elim
+          (λ (q : n ≡ i). rw q (getD-set-same list i v 0 (omega (arith, f .long))))
+          (λ (q : n ≡ i → ⊥). getD-set-other list i n v 0 q ∙ f .done n (omega arith))
+          (eq-or-ne n i);
+    }
+
+-- roots and list copied: the same roots, listed
+pub copied : {roots live out list : List ℕ} {count i : ℕ} → Live roots live count → FilledAt (λ (j : ℕ). getD roots j 0) live count i out → ListedTo live i list → count ≤ i → (out ≡ roots) × Live out list count
+copied {roots} {live} {out} {list} {count} {i} r f l end =
+    let same : out ≡ roots = ext-getD 0 out roots (f .long ∙ sym (r .long)) (λ j h. at-all f end (r .listed) j (omega (arith, f .long))) in (
+      same,
+      record {
+        long = f .long;
+        places = record { long = l .long; few = r .places .few; place = λ n h. subst (λ (x : ℕ). x < rootsLength) (sym (l .done n (omega arith))) (r .places .place n h) };
+        listed = λ j h.
+            ⊎-elim
+            (λ (z : getD roots j 0 ≡ 0). inl (ap (λ (xs : List ℕ). getD xs j 0) same ∙ z))
+            (λ (w : Listed live count j). inr (w .0, w .1, l .done (w .0) (omega (arith, w .1)) ∙ w .2))
+            (r .listed j h);
+      },
+    )

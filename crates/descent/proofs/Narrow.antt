@@ -348,3 +348,7 @@ module _ {net roots marks : List ℕ} {n : ℕ} (inner : Inner net n) (piece : P
     touch = λ letters w r p e. ap (λ (v : ℕ). eqb v 1) (sym (same-touched sel letters w r p)) ∙ e;
     calm = λ letters w r p e q. narrow-calm sel letters w r p q;
   }
+
+-- roots that stay as they are
+pub narrowed-same : {c : Circuit} {n : ℕ} {roots out : List ℕ} → out ≡ roots → length roots ≡ rootsLength → Narrowed c n roots out
+narrowed-same {c} {n} {roots} e long = subst (Narrowed c n roots) (sym e) (record { long = long; either = λ j _. inl refl; settles = λ letters w _ time p. refl; touch = λ letters w _ p t. t; calm = λ letters w _ p _ q. q })

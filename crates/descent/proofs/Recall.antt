@@ -16,7 +16,7 @@ use Rattle.functions.specs.Open.{Open}
 use Rattle.descent.specs.Settle.{settledBy}
 use Rattle.descent.specs.Piece.{Narrowed}
 use Rattle.descent.specs.Descend.{Rooted}
-use Rattle.descent.specs.Memo.{Memo, Looked, Remembered}
+use Rattle.descent.specs.Memo.{slots, Memo, Looked, Remembered}
 use Rattle.descent.proofs.Going.{ready-roots, narrow-store}
 use Rattle.descent.proofs.Remember.{memo-more, memo-hit, memo-after, after-open, after-small, after-means}
 
@@ -51,6 +51,6 @@ module _ {net : List ℕ} {n k : ℕ} {l w h : List ℕ} {used : ℕ} {roots : L
 
   -- roots that were met before
   pub hit-stored : {kept memo : List ℕ} {slot word : ℕ} → Narrowed (netCircuit net) n roots kept
-      → Memo (settledBy (netCircuit net) time n k (held l w h used)) k (held l1 w1 h1 used1) memo → slot < 64 → Looked memo slot kept word → (word ≡ 0 → ⊥)
+      → Memo (settledBy (netCircuit net) time n k (held l w h used)) k (held l1 w1 h1 used1) memo → slot < slots → Looked memo slot kept word → (word ≡ 0 → ⊥)
       → Outcome (held l1 w1 h1 used1) (store k 0 (settledBy (netCircuit net) time n k (held l w h used) roots) (held l1 w1 h1 used1)) l1 w1 h1 ix1 (put Going (word - 1) used1)
   hit-stored s m small f node = rw (← narrow-store r s time t) (memo-hit o m small f node)

@@ -23,16 +23,16 @@ use Rattle.table.specs.Holds.{Outcome}
 use Rattle.table.proofs.Outcomes.{put, holds-table, outcome-there}
 use Rattle.functions.specs.Open.{Open}
 use Rattle.functions.proofs.Carry.{legible-sound, open-next}
-use Rattle.descent.specs.Memo.{memoLength, slotRoots, Means, Memo, Looked, Remembered}
+use Rattle.descent.specs.Memo.{slots, memoLength, slotRoots, Means, Memo, Looked, Remembered}
 
 module _ {F : List ℕ → ℕ → ℕ} {k : ℕ} where
   -- free slots say nothing
-  pub memo-empty : (t : Table) (memo : List ℕ) → length memo ≡ memoLength → ((s : ℕ) → s < 64 → getD memo s 0 ≡ 0) → Memo F k t memo
+  pub memo-empty : (t : Table) (memo : List ℕ) → memoLength ≤ length memo → ((s : ℕ) → s < slots → getD memo s 0 ≡ 0) → Memo F k t memo
   memo-empty t memo long free = record { long = long; is = λ s e h g. absurd (omega (arith, free s h)) }
 
   -- as those of a new memo
   pub memo-new : (t : Table) → Memo F k t (replicate memoLength 0)
-  memo-new t = memo-empty t (replicate memoLength 0) (length-replicate {A = ℕ} memoLength 0) (λ s h. getD-replicate {A = ℕ} memoLength s 0 0 (omega arith))
+  memo-new t = memo-empty t (replicate memoLength 0) (omega (arith, length-replicate {A = ℕ} memoLength 0)) (λ s h. getD-replicate {A = ℕ} memoLength s 0 0 (omega arith))
 
   -- what it says stays right as the table grows
   pub memo-extends : {t u : Table} {memo : List ℕ} → k ≤ mostLetters → Sound k t → Extends t u → Memo F k t memo → Memo F k u memo
@@ -66,7 +66,7 @@ module _ {k : ℕ} {l w h ix : List ℕ} {used : ℕ} (o : Open k l w h ix used)
   sound = legible-sound (o .legible)
 
   -- the entry of roots that were met before needs no storing
-  pub memo-hit : {F : List ℕ → ℕ → ℕ} {memo roots : List ℕ} {slot r : ℕ} → Memo F k (held l w h used) memo → slot < 64 → Looked memo slot roots r → (r ≡ 0 → ⊥)
+  pub memo-hit : {F : List ℕ → ℕ → ℕ} {memo roots : List ℕ} {slot r : ℕ} → Memo F k (held l w h used) memo → slot < slots → Looked memo slot roots r → (r ≡ 0 → ⊥)
       → Outcome (held l w h used) (store k 0 (F roots) (held l w h used)) l w h ix (put Going (r - 1) used)
   memo-hit {F} {memo} {roots} {slot} {r} m small f n =
       let e : ℕ = r - 1 in

@@ -1,7 +1,7 @@
 -- A memo of a descent: which entry was stored for which roots.
 use mathlib.Core.Path.{_≡_}
 use mathlib.Core.List.{List}
-use Prim.Native.Nat.{ℕ, suc, _+_, _*_, _<_}
+use Prim.Native.Nat.{ℕ, suc, _+_, _*_, _<_, _≤_}
 use lib.ListN.{length, getD, take, drop}
 use Rattle.diagram.specs.Pattern.{patterns}
 use Rattle.diagram.specs.Table.{Table, numberAt}
@@ -9,7 +9,7 @@ use Rattle.net.specs.Roots.{rootsLength}
 
 -- a word for each slot, 0 where it is free, else its entry and one more; then the roots of each slot
 abbrev pub slots : ℕ
-slots = 64
+slots = 88
 
 abbrev pub memoLength : ℕ
 memoLength = slots * (rootsLength + 1)
@@ -25,7 +25,7 @@ pub record Means (F : List ℕ → ℕ → ℕ) (letters : ℕ) (t : Table) (roo
 
 -- each slot is free, or its entry is what its roots settle
 pub record Memo (F : List ℕ → ℕ → ℕ) (letters : ℕ) (t : Table) (memo : List ℕ) : Type 0 where
-  pub long : length memo ≡ memoLength
+  pub long : memoLength ≤ length memo
   pub is : (s e : ℕ) → s < slots → getD memo s 0 ≡ suc e → Means F letters t (slotRoots memo s) e
 
 -- the word of a slot whose roots are these, or 0
@@ -36,7 +36,7 @@ pub record Looked (memo : List ℕ) (slot : ℕ) (roots : List ℕ) (r : ℕ) : 
 
 -- a slot has new roots and their entry; the others are as before
 pub record Remembered (memo : List ℕ) (slot : ℕ) (roots : List ℕ) (e : ℕ) (out : List ℕ) : Type 0 where
-  pub long : length out ≡ memoLength
+  pub long : memoLength ≤ length out
   pub word : getD out slot 0 ≡ suc e
   pub key : slotRoots out slot ≡ roots
   pub other-word : (s : ℕ) → s < slots → (s ≡ slot → ⊥) → getD out s 0 ≡ getD memo s 0

@@ -7,6 +7,7 @@ use crate::live::live_numbers;
 use crate::live::narrow;
 use crate::memo::MEMO;
 use crate::memo::bucket;
+use crate::memo::forget;
 use crate::memo::keep;
 use crate::memo::look;
 use crate::quiet::quiet;
@@ -79,7 +80,7 @@ fn down(
     live: &[u32; ROOTS],
     count: u32,
     left: u32,
-    memo: &mut [u32; MEMO],
+    memo: &mut [u32],
 ) -> Put
     requires { ⌜ Rooted (now net) n k (now wletter) (now wlow) (now whigh) wused (now roots) left ⌝ }
     requires { ⌜ Live (now roots) (now live) count ⌝ }
@@ -195,8 +196,9 @@ fn down(
     r
 }
 
-// The next change of node n at every pattern, by the roots in the working columns, whose letters are among the last `left` of the k.
-pub fn descend(
+// The next change of node n at every pattern, by the roots in the working columns, whose letters are among the last `left` of the k,
+// with a memo of its own.
+fn alone(
     net: &[u32],
     wletter: &[u32],
     wlow: &[u32],
@@ -238,5 +240,72 @@ pub fn descend(
         PLACES,
         left,
         &mut memo,
+    )
+}
+
+// The next change of node n at every pattern, by the roots in the working columns, whose letters are among the last `left` of the k.
+// The lent numbers may be any: they serve as its memo where they are enough.
+pub fn descend(
+    net: &[u32],
+    wletter: &[u32],
+    wlow: &[u32],
+    whigh: &[u32],
+    wused: u32,
+    letter: &mut [u32],
+    low: &mut [u32],
+    high: &mut [u32],
+    index: &mut [u32],
+    used: u32,
+    k: u32,
+    time: u32,
+    n: u32,
+    roots: &[u32; ROOTS],
+    left: u32,
+    memo: &mut [u32],
+) -> Put
+    requires { ⌜ Rooted (now net) n k (now wletter) (now wlow) (now whigh) wused (now roots) left ⌝ }
+    requires { ⌜ Open k (now letter) (now low) (now high) (now index) used ⌝ }
+    ensures { λ r. ⌜ Outcome (held (now (letter .entry)) (now (low .entry)) (now (high .entry)) used) (store k 0 (settledBy (netCircuit (now (net .entry))) time n k (held (now (wletter .entry)) (now (wlow .entry)) (now (whigh .entry)) wused) (now (roots .entry))) (held (now (letter .entry)) (now (low .entry)) (now (high .entry)) used)) (now (letter .exit)) (now (low .exit)) (now (high .exit)) (now (index .exit)) r ⌝ }
+{
+    if memo.len() < MEMO {
+        return alone(
+            net,
+            wletter,
+            wlow,
+            whigh,
+            wused,
+            letter,
+            low,
+            high,
+            index,
+            used,
+            k,
+            time,
+            n,
+            roots,
+            left,
+        );
+    }
+    let live = all_places();
+    forget(memo);
+    down(
+        net,
+        wletter,
+        wlow,
+        whigh,
+        wused,
+        letter,
+        low,
+        high,
+        index,
+        used,
+        k,
+        time,
+        n,
+        roots,
+        &live,
+        PLACES,
+        left,
+        memo,
     )
 }

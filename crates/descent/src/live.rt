@@ -91,7 +91,46 @@ fn keep(
     total
 }
 
-// The roots that matter to node n, and the list of their places. Gives their count.
+// Whether a listed root is entry 0. Nothing hangs on it but whether narrowing is worth its work.
+fn some_zero(roots: &[u32; ROOTS], live: &[u32; ROOTS], count: u32) -> bool
+    requires { ⌜ Live (now roots) (now live) count ⌝ }
+{
+    let mut i: u32 = 0;
+    while i < count {
+        let k = i as usize;
+        let at = live[k] as usize;
+        if roots[at] == 0 {
+            return true;
+        }
+        i += 1;
+    }
+    false
+}
+
+// The same roots and the same list.
+fn copy(
+    roots: &[u32; ROOTS],
+    live: &[u32; ROOTS],
+    count: u32,
+    out: &mut [u32; ROOTS],
+    list: &mut [u32; ROOTS],
+)
+    requires { ⌜ Live (now roots) (now live) count × Live (now out) (now live) count × (length (now list) ≡ rootsLength) ⌝ }
+    ensures { λ _. ⌜ (now (out .exit) ≡ now (roots .entry)) × Live (now (out .exit)) (now (list .exit)) count ⌝ }
+{
+    let mut i: u32 = 0;
+    while i < count {
+        let k = i as usize;
+        let j = live[k];
+        let at = j as usize;
+        out[at] = roots[at];
+        list[k] = j;
+        i += 1;
+    }
+}
+
+// The roots that matter to node n, and the list of their places. Gives their count. Where none has become entry 0 since they were listed,
+// they are the same.
 pub fn narrow(
     net: &[u32],
     n: u32,
@@ -106,6 +145,10 @@ pub fn narrow(
     ensures { λ r. ⌜ Narrowed (netCircuit (now (net .entry))) n (now (roots .entry)) (now (out .exit)) ⌝ }
     ensures { λ r. ⌜ Live (now (out .exit)) (now (list .exit)) r ⌝ }
 {
+    if !some_zero(roots, live, count) {
+        copy(roots, live, count, out, list);
+        return count;
+    }
     let marks = piece(net, roots, n);
     keep(net, roots, &marks, live, count, out, list)
 }

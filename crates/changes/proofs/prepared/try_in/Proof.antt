@@ -44,7 +44,7 @@ returns : tie.Need-returns
 returns c = ((λ e. absurd (true≢false (sym e))), λ e. (refl, refl, refl, refl))
 
 all-by-marks-requires : tie.Need-all-by-marks-requires
-all-by-marks-requires c κs = let s = c .before .before .before .before .before .before .before .before .before .before .before .before .before .before .before .before .before .before .before .before .before .before .before .before .before .before .before .before .before .before .before .before .before .before .before .before .before .before in (step-roots (s .pre .0 .0) (s .pre .0 .1) (masked-entries (s .pre .0 .0) (s .pre .0 .1) (record { first = s .pre .1 .0; second = s .pre .1 .1; third = s .pre .1 .2 }) (c .before .before .before .before .before .before .before .before .before .before .before .before .before .before .before .before .before .before .before .before .before .before .before .before .before .before .masked .ensures)) (c .before .before .before .before .before .before .before .before .before .before .before .before .before .before .before .before .before .before .prepare .ensures .0 (sym (c .before .before .before .before .before .before .before .before .before .stopped .ensures) ∙ c .before .before .before .before .before .before .before .before .if1 .left)), s .pre .0 .1, s .pre .1 .2, s .pre .1 .4)
+all-by-marks-requires c κs = let s = c .before .before .before .before .before .before .before .before .before .before .before .before .before .before .before .before .before .before .before .before .before .before .before .before .before .before .before .before .before .before .before .before .before .before .before .before .before .before .before in (step-roots (s .pre .0 .0) (s .pre .0 .1) (masked-entries (s .pre .0 .0) (s .pre .0 .1) (record { first = s .pre .1 .0; second = s .pre .1 .1; third = s .pre .1 .2 }) (c .before .before .before .before .before .before .before .before .before .before .before .before .before .before .before .before .before .before .before .before .before .before .before .before .before .before .before .masked .ensures)) (c .before .before .before .before .before .before .before .before .before .before .before .before .before .before .before .before .before .before .before .prepare .ensures .0 (sym (c .before .before .before .before .before .before .before .before .before .before .stopped .ensures) ∙ c .before .before .before .before .before .before .before .before .before .if1 .left)), s .pre .0 .1, s .pre .1 .2, s .pre .1 .4)
 
 same-length-8 : tie.Need-same-length-8
 same-length-8 c = search needs
@@ -71,7 +71,7 @@ same-length-15 : tie.Need-same-length-15
 same-length-15 c = search needs
 
 returns-2 : tie.Need-returns-2
-returns-2 c = let s = c .before .before .before .before .before .before .before .before .before .before .before .before .before .before .before .before .before .before .before .before .before .before .before .before .before .before .before .before .before .before .before .before .before .before .before .before .before .before .before .before .before .before .before .before .before .before .before in ((λ e. mixed-stored (s .pre .0 .0) (s .pre .0 .1) (record { first = s .pre .1 .0; second = s .pre .1 .1; third = s .pre .1 .2 }) (c .before .before .before .before .before .before .before .before .before .before .before .before .before .before .before .before .before .before .before .before .before .before .before .before .before .before .before .before .before .before .before .before .before .before .before .masked .ensures) (s .pre .1 .3) (c .before .before .before .before .before .before .before .before .before .before .before .before .before .before .before .before .before .before .before .before .before .before .before .before .before .before .before .prepare .ensures .0 (sym (c .before .before .before .before .before .before .before .before .before .before .before .before .before .before .before .before .before .before .stopped .ensures) ∙ c .before .before .before .before .before .before .before .before .before .before .before .before .before .before .before .before .before .if1 .left)) (s .args .time) (c .before .before .before .before .before .before .before .before .all-by-marks .ensures)), λ e. absurd (true≢false e))
+returns-2 c = let s = c .before .before .before .before .before .before .before .before .before .before .before .before .before .before .before .before .before .before .before .before .before .before .before .before .before .before .before .before .before .before .before .before .before .before .before .before .before .before .before .before .before .before .before .before .before .before .before .before .before .before in ((λ e. mixed-stored (s .pre .0 .0) (s .pre .0 .1) (record { first = s .pre .1 .0; second = s .pre .1 .1; third = s .pre .1 .2 }) (c .before .before .before .before .before .before .before .before .before .before .before .before .before .before .before .before .before .before .before .before .before .before .before .before .before .before .before .before .before .before .before .before .before .before .before .before .before .before .masked .ensures) (s .pre .1 .3) (c .before .before .before .before .before .before .before .before .before .before .before .before .before .before .before .before .before .before .before .before .before .before .before .before .before .before .before .before .before .before .prepare .ensures .0 (sym (c .before .before .before .before .before .before .before .before .before .before .before .before .before .before .before .before .before .before .before .before .before .stopped .ensures) ∙ c .before .before .before .before .before .before .before .before .before .before .before .before .before .before .before .before .before .before .before .before .if1 .left)) (s .args .time) (c .before .before .before .before .before .before .before .before .before .before .all-by-marks .ensures)), λ e. absurd (true≢false e))
 
 pub try-in-spec : {M : Type 1} → statement M
 try-in-spec =

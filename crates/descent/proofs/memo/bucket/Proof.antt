@@ -6,7 +6,7 @@ use Rattle.descent.proofs.memo.bucket.Statement.{statement}
 use Rattle.descent.proofs.memo.bucket.Tie as tie
 
 abbrev Inv-loop : tie.InvT-loop
-Inv-loop roots live count h₀ i₀ h i = (i ≤ count) × (h < 1048573)
+Inv-loop roots live count h₀ i₀ h i = (i ≤ count) × (h < 1048576)
 
 abbrev μ-loop : tie.MeasureT-loop
 μ-loop roots live count h₀ i₀ h i = count - i
@@ -44,6 +44,9 @@ loop-less c = search needs
 loop-again : tie.Need-loop-again Inv-loop μ-loop
 loop-again c = search needs
 
+mul-result : tie.Need-mul-result Inv-loop μ-loop
+mul-result c = search needs
+
 returns : tie.Need-returns Inv-loop μ-loop
 returns c = search needs
 
@@ -64,4 +67,5 @@ bucket-spec =
     add-i
     loop-less
     loop-again
+    mul-result
     returns)

@@ -1,6 +1,8 @@
 -- `keep`: the roots before i were replaced.
-use Prim.Native.Nat.{_-_, _≤_}
+use mathlib.Core.Path.{_∙_}
+use Prim.Native.Nat.{_+_, _-_, _≤_}
 use native.Mathlib.Omega.{arith}
+use lib.ListN.{length-set}
 use borrow.Author.Needs.{needs}
 use Rattle.descent.proofs.Slots.{KeptTo, kept-none, kept-next, kept-all}
 use Rattle.descent.proofs.memo.keep.Statement.{statement}
@@ -20,7 +22,7 @@ add-from : tie.Need-add-from Inv-loop μ-loop
 add-from c = search needs
 
 loop-holds : tie.Need-loop-holds Inv-loop μ-loop
-loop-holds c = (omega arith, kept-none _ _ _ (c .pre .1 .0))
+loop-holds c = (omega arith, kept-none _ _ _)
 
 mul-memo : tie.Need-mul-memo Inv-loop μ-loop
 mul-memo c = search needs
@@ -34,8 +36,8 @@ add-memo c = search needs
 mul-memo-2 : tie.Need-mul-memo-2 Inv-loop μ-loop
 mul-memo-2 c = search needs
 
-element-write-memo : tie.Need-element-write-memo Inv-loop μ-loop
-element-write-memo c = search needs
+slice-write-memo : tie.Need-slice-write-memo Inv-loop μ-loop
+slice-write-memo c = search needs
 
 add-i : tie.Need-add-i Inv-loop μ-loop
 add-i c = search needs
@@ -44,7 +46,7 @@ loop-less : tie.Need-loop-less Inv-loop μ-loop
 loop-less c = search needs
 
 loop-again : tie.Need-loop-again Inv-loop μ-loop
-loop-again c = (omega arith, kept-next (c .before .before .before .pre .0 .0) (c .before .loop-test .taken) (c .before .before .loop .inv .1))
+loop-again c = (omega arith, kept-next (c .before .before .before .pre .1 .0) (c .before .before .before .pre .0 .0) (c .before .loop-test .taken) (c .before .before .loop .inv .1))
 
 add-memo-2 : tie.Need-add-memo-2 Inv-loop μ-loop
 add-memo-2 c = search needs
@@ -52,8 +54,11 @@ add-memo-2 c = search needs
 mul-memo-3 : tie.Need-mul-memo-3 Inv-loop μ-loop
 mul-memo-3 c = search needs
 
-element-write-memo-2 : tie.Need-element-write-memo-2 Inv-loop μ-loop
-element-write-memo-2 c = search needs
+slice-write-memo-2 : tie.Need-slice-write-memo-2 Inv-loop μ-loop
+slice-write-memo-2 c = search needs
+
+same-length : tie.Need-same-length Inv-loop μ-loop
+same-length c = length-set (c .before .loop .memo) (c .before .before .args .slot) (c .before .before .args .e + 1) ∙ c .before .loop .inv .1 .long
 
 returns : tie.Need-returns Inv-loop μ-loop
 returns c = kept-all (c .before .before .pre .1 .0) (c .before .before .pre .0 .0) (c .before .before .pre .1 .1) (omega arith) (c .before .loop .inv .1)
@@ -71,11 +76,12 @@ keep-spec =
     element-copy-out-memo
     add-memo
     mul-memo-2
-    element-write-memo
+    slice-write-memo
     add-i
     loop-less
     loop-again
     add-memo-2
     mul-memo-3
-    element-write-memo-2
+    slice-write-memo-2
+    same-length
     returns)
