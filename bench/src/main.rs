@@ -2,78 +2,35 @@
 
 mod buddy;
 
+use bench::table::{operations, pairs, Lent, CHECK, NUMBERS, PAIRED};
 use buddy::Buddy;
 use comparison::functions::{Columns, Operation, Table, FIRST, LENGTHS, MOST_LETTERS};
 use comparison::generate::functions::table;
 use comparison::random::Random;
-use comparison::sts;
 use std::time::{Duration, Instant};
 
 /// How often each call is timed; the fastest counts.
 const ROUNDS: usize = 25;
 
-/// A table to call on, which every call finds as it was made.
-struct Lent {
-    letters: u32,
-    columns: Columns,
-    used: u32,
+/// Makes a call, hands its result over and takes out what it has added, so that
+/// every call finds the table as it was made. Gives the call's own time.
+fn time(lent: &mut Lent, operation: Operation, look: impl FnOnce(&mut Lent, u32)) -> Duration {
+    let before = lent.used as usize;
+    let start = Instant::now();
+    let result = lent.call(operation);
+    let time = start.elapsed();
+    look(lent, result);
+    for column in lent.columns.each_mut() {
+        column[before..lent.used as usize].fill(0);
+    }
+    lent.used = before as u32;
+    time
 }
 
-impl Lent {
-    fn new(letters: u32, table: &Table, length: usize) -> Lent {
-        Lent {
-            letters,
-            columns: Columns::of(table.entries(), length),
-            used: table.entries().len() as u32,
-        }
-    }
-
-    /// Makes a call, hands its result over and takes out what it has added. Gives
-    /// the call's own time.
-    fn time(&mut self, operation: Operation, look: impl FnOnce(&mut Lent, u32)) -> Duration {
-        let before = self.used as usize;
-        let mut result = 0;
-        let columns = self.columns.each_mut().map(Vec::as_mut_slice);
-        let start = Instant::now();
-        let answer = sts::call(
-            operation,
-            self.letters,
-            columns,
-            &mut self.used,
-            &mut result,
-        );
-        let time = start.elapsed();
-        assert_eq!(answer, 0, "{operation:?} is answered");
-        look(self, result);
-        for column in self.columns.each_mut() {
-            column[before..self.used as usize].fill(0);
-        }
-        self.used = before as u32;
-        time
-    }
-
-    fn count(&mut self, function: u32) -> u32 {
-        let mut count = 0;
-        let columns = self.columns.each_mut().map(Vec::as_mut_slice);
-        let operation = Operation::Count { function };
-        let answer = sts::call(operation, self.letters, columns, &mut self.used, &mut count);
-        assert_eq!(answer, 0, "{operation:?} is answered");
-        count
-    }
-
-    /// The time of a call.
-    fn least(&mut self, operation: Operation) -> Duration {
-        let round = |_| self.time(operation, |_, _| ());
-        (0..ROUNDS).map(round).min().unwrap_or_default()
-    }
-
-    /// The time of a call that does little more than check the table.
-    fn check(&mut self) -> Duration {
-        self.least(Operation::Number {
-            function: 0,
-            pattern: 0,
-        })
-    }
+/// The time of a call.
+fn least(lent: &mut Lent, operation: Operation) -> Duration {
+    let round = |_| time(lent, operation, |_, _| ());
+    (0..ROUNDS).map(round).min().unwrap_or_default()
 }
 
 fn micros(time: Duration) -> f64 {
@@ -82,13 +39,6 @@ fn micros(time: Duration) -> f64 {
 
 fn line(what: &str, time: Duration) {
     println!("{what:<66} {:>9.2} us", micros(time));
-}
-
-/// A function of 12 letters with a random number from 0 to `most` at each pattern.
-fn random_function(random: &mut Random, most: u32) -> Vec<u32> {
-    (0..1 << MOST_LETTERS)
-        .map(|_| random.between(0, most))
-        .collect()
 }
 
 fn checks(random: &mut Random) {
@@ -102,51 +52,27 @@ fn checks(random: &mut Random) {
             };
             line(
                 &format!("check: {used} entries, {letters} letters"),
-                lent.check(),
+                least(&mut lent, CHECK),
             );
         }
     }
     let mut lent = Lent::new(MOST_LETTERS, &Table::fresh(MOST_LETTERS), *LENGTHS.end());
-    line("check: 3 entries used of 65536", lent.check());
+    line("check: 3 entries used of 65536", least(&mut lent, CHECK));
 }
 
-/// Operations on pairs of functions of 12 letters, in a table of two functions.
-fn operations(random: &mut Random, what: &str, most: u32) {
-    let mut table = Table::fresh(MOST_LETTERS);
-    let [first, second] = [(); 2].map(|()| table.store(&random_function(random, most)));
-    let selector = table.store(&random_function(random, 1));
-    let used = table.entries().len();
-    let mut lent = Lent::new(MOST_LETTERS, &table, *LENGTHS.end());
-    let check = lent.check();
+/// Operations on functions of 12 letters, in a table of two functions.
+fn operations_beyond_check(random: &mut Random, what: &str, most: u32) {
+    let (mut lent, operations) = operations(random, most);
+    let used = lent.used;
+    let check = least(&mut lent, CHECK);
     line(
         &format!("operation: {what}: check of {used} entries"),
         check,
     );
-    let last = MOST_LETTERS - 1;
-    for (name, operation) in [
-        (
-            "choose",
-            Operation::Choose {
-                selector,
-                first,
-                second,
-            },
-        ),
-        ("smaller", Operation::Smaller { first, second }),
-        ("sum", Operation::Sum { first, second }),
-        (
-            "fix the last letter",
-            Operation::Fix {
-                function: first,
-                letter: last,
-                bit: 1,
-            },
-        ),
-        ("count", Operation::Count { function: selector }),
-    ] {
+    for (name, operation) in operations {
         let mut added = 0;
-        lent.time(operation, |lent, _| added = lent.used as usize - used);
-        let beyond = lent.least(operation).saturating_sub(check);
+        time(&mut lent, operation, |lent, _| added = lent.used - used);
+        let beyond = least(&mut lent, operation).saturating_sub(check);
         line(
             &format!("operation: {what}: {name}, {added} added, beyond check"),
             beyond,
@@ -196,19 +122,13 @@ fn small_table() {
             },
         ),
     ] {
-        line(&format!("small table: {name}"), lent.least(operation));
+        line(&format!("small table: {name}"), least(&mut lent, operation));
     }
 }
 
 /// "And" and "or" of pairs of random functions, beside BuDDy.
 fn beside_buddy(random: &mut Random, count: usize, length: usize) {
-    let functions: Vec<Vec<u32>> = (0..count).map(|_| random_function(random, 1)).collect();
-    let mut table = Table::fresh(MOST_LETTERS);
-    let entries: Vec<u32> = functions
-        .iter()
-        .map(|function| table.store(function))
-        .collect();
-    let mut lent = Lent::new(MOST_LETTERS, &table, length);
+    let (functions, mut lent, pairs) = pairs(random, count, length);
     let mut buddy = Buddy::start(MOST_LETTERS);
     let kept: Vec<_> = functions
         .iter()
@@ -218,23 +138,12 @@ fn beside_buddy(random: &mut Random, count: usize, length: usize) {
 
     let mut ours = Duration::ZERO;
     let mut theirs = Duration::ZERO;
-    for one in 0..count {
-        let other = (one + 1) % count;
-        let (first, second) = (entries[one], entries[other]);
-        let and = Operation::Choose {
-            selector: first,
-            first: second,
-            second: 0,
-        };
-        let or = Operation::Choose {
-            selector: first,
-            first: 1,
-            second,
-        };
-        let their_and = |buddy: &mut Buddy| buddy.and(kept[one], kept[other]);
-        let their_or = |buddy: &mut Buddy| buddy.or(kept[one], kept[other]);
-        let (our_and, their_and) = both(&mut lent, and, &mut buddy, their_and);
-        let (our_or, their_or) = both(&mut lent, or, &mut buddy, their_or);
+    for pair in pairs {
+        let (first, second) = (kept[pair.first], kept[pair.second]);
+        let their_and = |buddy: &mut Buddy| buddy.and(first, second);
+        let their_or = |buddy: &mut Buddy| buddy.or(first, second);
+        let (our_and, their_and) = both(&mut lent, pair.and, &mut buddy, their_and);
+        let (our_or, their_or) = both(&mut lent, pair.or, &mut buddy, their_or);
         ours += our_and + our_or;
         theirs += their_and + their_or;
     }
@@ -252,7 +161,9 @@ fn both(
     let mut least = (Duration::MAX, Duration::MAX);
     for _ in 0..ROUNDS {
         let mut ones = 0;
-        let our_time = lent.time(ours, |lent, result| ones = lent.count(result));
+        let our_time = time(lent, ours, |lent, result| {
+            ones = lent.call(Operation::Count { function: result });
+        });
         let start = Instant::now();
         let result = theirs(buddy);
         let their_time = start.elapsed();
@@ -264,7 +175,7 @@ fn both(
 }
 
 fn print_ratio(lent: &mut Lent, ours: Duration, theirs: Duration) {
-    let check = lent.check();
+    let check = least(lent, CHECK);
     let what = format!(
         "ratio: {} entries used of {}",
         lent.used,
@@ -285,10 +196,11 @@ fn print_ratio(lent: &mut Lent, ours: Duration, theirs: Duration) {
 fn main() {
     let mut random = Random::new(1);
     checks(&mut random);
-    operations(&mut random, "0 and 1", 1);
-    operations(&mut random, "20 numbers", 19);
-    operations(&mut random, "any number", u32::MAX);
+    for (what, most) in NUMBERS {
+        operations_beyond_check(&mut random, what, most);
+    }
     small_table();
-    beside_buddy(&mut random, 2, 4_096);
-    beside_buddy(&mut random, 20, *LENGTHS.end());
+    for (count, length) in PAIRED {
+        beside_buddy(&mut random, count, length);
+    }
 }
