@@ -4,7 +4,7 @@
 
 use comparison::cell_file::{parse, Cell, Layout, FIRST_NODE};
 use comparison::designs;
-use comparison::functions::{Columns, Entry, Table, FIRST, LENGTHS};
+use comparison::functions::{Columns, Entry, Table, FIRST, LENGTHS, TERMINAL};
 use comparison::generate::faults::{Fault, Given};
 use comparison::generate::live::{self, Size};
 use comparison::generate::{calls, functions as tables, legal, records};
@@ -13,13 +13,13 @@ use comparison::random::Random;
 use comparison::refusal::Refusal;
 use comparison::replay::{hex, Cases};
 use comparison::side_by_side;
-use comparison::simulator::calls::{Call, Lent, ANSWER, RECORD, TIME, USED, WORKING};
+use comparison::simulator::calls::{Call, Lent, ANSWER, RECORD, TIME, USED, VALUES, WORKING};
 use comparison::simulator::circuit::Circuit;
 use comparison::simulator::trial::Trial;
 use comparison::sts;
 use comparison::tally::Tally;
 use comparison::vectors::CELLS;
-use std::collections::BTreeMap;
+use std::collections::{BTreeMap, BTreeSet};
 use std::fmt;
 
 type Answered = Result<(), Refusal>;
@@ -570,6 +570,62 @@ fn many_letters() {
     seen.print("many letters");
     let enough = seen.letters[6..].iter().all(|&steps| steps >= 8);
     assert!(enough, "steps by letters {:?}", seen.letters);
+}
+
+/// How many entries the function of an entry has.
+fn size(table: &Columns, entry: u32) -> usize {
+    let mut met = BTreeSet::new();
+    let mut left = vec![entry];
+    while let Some(entry) = left.pop() {
+        let at = entry as usize;
+        if met.insert(entry) && table.letter[at] != TERMINAL {
+            left.extend([table.low[at], table.high[at]]);
+        }
+    }
+    met.len()
+}
+
+/// Functions of more entries than the tool has slots for results that it found
+/// before: slots are taken again, and what stood there is worked out anew. With
+/// working tables of both lengths.
+#[test]
+fn more_entries_than_slots() {
+    const SLOTS: usize = 128;
+    let mut random = Random::new(34);
+    let mut seen = Seen::default();
+    for (name, cell) in [
+        ("carry chain", designs::carry_chain(12, 0)),
+        (
+            "carry chain, one after the other",
+            designs::carry_chain(12, 30),
+        ),
+        ("barrel column", designs::barrel_column(12, 0)),
+    ] {
+        let trial = Trial::of(&Circuit::new(&cell), Table::fresh(cell.letters), 60 << 12);
+        let layout = Layout::in_order(&cell);
+        for working in [*WORKING.start(), *WORKING.end()] {
+            let case = format!("{name}, working of {working}");
+            let mut given = fresh(&mut random, &layout, *LENGTHS.end(), working);
+            let _ = next(
+                &mut seen,
+                &mut given,
+                Call::Start { used: 3 },
+                &trial,
+                &case,
+            );
+            let mut largest = 0;
+            for _ in 1..trial.moments.len() {
+                given.lent.working = records::working(&mut random, working);
+                let _ = next(&mut seen, &mut given, Call::Step, &trial, &case);
+                let entries = given.lent.record[VALUES..].iter();
+                let sizes = entries.map(|&entry| size(&given.lent.table, entry));
+                largest = largest.max(sizes.max().unwrap_or_default());
+            }
+            assert!(largest > SLOTS, "{case}: {largest} entries at most");
+        }
+    }
+    seen.print("more entries than slots");
+    seen.answers["sts_step"].expect(20, &[0]);
 }
 
 /// The cells of the vectors and those that are drawn for a library, step by step
