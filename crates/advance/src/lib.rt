@@ -22,7 +22,7 @@ ghost use mathlib.Core.Bool.{true};
 ghost use Rattle.refusal.specs.Answer.{answered};
 ghost use Rattle.diagram.specs.Call.{columns, lengthsLegal};
 ghost use Rattle.rules.specs.Call.{workingLegal};
-ghost use Rattle.table.specs.Holds.{Sized, Empty};
+ghost use Rattle.table.specs.Holds.{Sized, Lent, Empty};
 ghost use Rattle.net.specs.Net.{netCircuit};
 ghost use Rattle.net.specs.Laid.{Laid};
 ghost use Rattle.advance.specs.declared.Task.the-variants.{Start, Step, Until};
@@ -77,7 +77,7 @@ fn start_task(
     windex: &mut [u32],
 ) -> Went
     requires { ⌜ Laid (netCircuit (now net)) (now net) × (lengthsLegal (columns (now letter) (now low) (now high)) ≡ true) × (workingLegal (columns (now wletter) (now wlow) (now whigh)) ≡ true) ⌝ }
-    requires { ⌜ Sized (now letter) (now low) (now high) (now index) × Empty (now index) × Sized (now wletter) (now wlow) (now whigh) (now windex) ⌝ }
+    requires { ⌜ Sized (now letter) (now low) (now high) (now index) × Empty (now index) × Lent (now wletter) (now wlow) (now whigh) (now windex) ⌝ }
     ensures { λ x. ⌜ WentAs (columns (now (letter .entry)) (now (low .entry)) (now (high .entry))) (columns (now (letter .exit)) (now (low .exit)) (now (high .exit))) r (taskCall (answered (netCircuit (now (net .entry)))) (Start used) (columns (now (letter .entry)) (now (low .entry)) (now (high .entry))) r (columns (now (wletter .entry)) (now (wlow .entry)) (now (whigh .entry)))) (x .reply) (x .run) ⌝ }
 {
     let k = net[net::LETTERS];
@@ -112,7 +112,7 @@ fn step_task(
     windex: &mut [u32],
 ) -> Went
     requires { ⌜ Laid (netCircuit (now net)) (now net) × (lengthsLegal (columns (now letter) (now low) (now high)) ≡ true) × (workingLegal (columns (now wletter) (now wlow) (now whigh)) ≡ true) ⌝ }
-    requires { ⌜ Sized (now letter) (now low) (now high) (now index) × Empty (now index) × Sized (now wletter) (now wlow) (now whigh) (now windex) ⌝ }
+    requires { ⌜ Sized (now letter) (now low) (now high) (now index) × Empty (now index) × Lent (now wletter) (now wlow) (now whigh) (now windex) ⌝ }
     ensures { λ x. ⌜ WentAs (columns (now (letter .entry)) (now (low .entry)) (now (high .entry))) (columns (now (letter .exit)) (now (low .exit)) (now (high .exit))) r (taskCall (answered (netCircuit (now (net .entry)))) Step (columns (now (letter .entry)) (now (low .entry)) (now (high .entry))) r (columns (now (wletter .entry)) (now (wlow .entry)) (now (whigh .entry)))) (x .reply) (x .run) ⌝ }
 {
     if !sound_together(net, letter, low, high, index, r) {
@@ -154,7 +154,7 @@ fn run_task(
     until: u32,
 ) -> Went
     requires { ⌜ Laid (netCircuit (now net)) (now net) × (lengthsLegal (columns (now letter) (now low) (now high)) ≡ true) × (workingLegal (columns (now wletter) (now wlow) (now whigh)) ≡ true) ⌝ }
-    requires { ⌜ Sized (now letter) (now low) (now high) (now index) × Empty (now index) × Sized (now wletter) (now wlow) (now whigh) (now windex) ⌝ }
+    requires { ⌜ Sized (now letter) (now low) (now high) (now index) × Empty (now index) × Lent (now wletter) (now wlow) (now whigh) (now windex) ⌝ }
     ensures { λ x. ⌜ WentAs (columns (now (letter .entry)) (now (low .entry)) (now (high .entry))) (columns (now (letter .exit)) (now (low .exit)) (now (high .exit))) r (taskCall (answered (netCircuit (now (net .entry)))) (Until until) (columns (now (letter .entry)) (now (low .entry)) (now (high .entry))) r (columns (now (wletter .entry)) (now (wlow .entry)) (now (whigh .entry)))) (x .reply) (x .run) ⌝ }
 {
     if !sound_together(net, letter, low, high, index, r) {
@@ -191,7 +191,7 @@ pub fn advance(
     windex: &mut [u32],
 ) -> Went
     requires { ⌜ Laid (netCircuit (now net)) (now net) × (lengthsLegal (columns (now letter) (now low) (now high)) ≡ true) × (workingLegal (columns (now wletter) (now wlow) (now whigh)) ≡ true) ⌝ }
-    requires { ⌜ Sized (now letter) (now low) (now high) (now index) × Empty (now index) × Sized (now wletter) (now wlow) (now whigh) (now windex) ⌝ }
+    requires { ⌜ Sized (now letter) (now low) (now high) (now index) × Empty (now index) × Lent (now wletter) (now wlow) (now whigh) (now windex) ⌝ }
     ensures { λ x. ⌜ WentAs (columns (now (letter .entry)) (now (low .entry)) (now (high .entry))) (columns (now (letter .exit)) (now (low .exit)) (now (high .exit))) r (taskCall (answered (netCircuit (now (net .entry)))) task (columns (now (letter .entry)) (now (low .entry)) (now (high .entry))) r (columns (now (wletter .entry)) (now (wlow .entry)) (now (whigh .entry)))) (x .reply) (x .run) ⌝ }
 {
     match task {

@@ -13,7 +13,7 @@ ghost use lib.ListN.{length, take};
 ghost use Rattle.lists.specs.Padded.{padded};
 ghost use Rattle.diagram.specs.Call.{columns};
 ghost use Rattle.diagram.specs.Held.{held};
-ghost use Rattle.table.specs.Holds.{Sized};
+ghost use Rattle.table.specs.Holds.{Lent};
 ghost use Rattle.functions.specs.Open.{Open};
 ghost use Rattle.rules.specs.Run.{runMoment, runSound};
 ghost use Rattle.rules.specs.Call.{momentGiven};
@@ -67,7 +67,7 @@ pub fn steps(
     windex: &mut [u32],
     until: u32,
 ) -> Next
-    requires { ⌜ Laid (netCircuit (now net)) (now net) × Open (atPlace (now net) lettersPlace) (now letter) (now low) (now high) (now index) (r .used) × Sized (now wletter) (now wlow) (now whigh) (now windex) ⌝ }
+    requires { ⌜ Laid (netCircuit (now net)) (now net) × Open (atPlace (now net) lettersPlace) (now letter) (now low) (now high) (now index) (r .used) × Lent (now wletter) (now wlow) (now whigh) (now windex) ⌝ }
     requires { ⌜ runSound (netCircuit (now net)) (held (now letter) (now low) (now high) (r .used)) (runOf (netCircuit (now net)) r) ≡ true ⌝ }
     ensures { λ x. ⌜ Reached (held (now (letter .entry)) (now (low .entry)) (now (high .entry)) (r .used)) (runMoment (netCircuit (now (net .entry)) .horizon .0) (netCircuit (now (net .entry))) until (length (now (letter .entry))) (momentGiven (columns (now (letter .entry)) (now (low .entry)) (now (high .entry))) (runOf (netCircuit (now (net .entry))) r))) (now (letter .exit)) (now (low .exit)) (now (high .exit)) (now (index .exit)) (x .stop) (x .run) ⌝ }
 {

@@ -57,9 +57,6 @@ module _ {net l w h ix : List ℕ} {k used n : ℕ} {entries before after : List
   pub pending-used : AllUsed (2 + at net 0) (alike (getD entries changePlace 0)) used
   pending-used j lt = subst (λ (x : ℕ). x < used) (sym (getD-replicate {A = ℕ} 26 j (getD entries changePlace 0) 0 (omega (arith, few)))) (e .operand changePlace (omega arith) .within)
 
-  pub before-bits : Bits k (held l w h used) before (2 + at net 0)
-  before-bits j p lt hp = rw (b .is j (omega (arith, few))) (e .bits (0 + j) p (omega (arith, few)) hp)
-
   pub after-bits : Bits k (held l w h used) after (2 + at net 0)
   after-bits j p lt hp = rw (a .is j (omega (arith, few))) (e .bits (26 + j) p (omega (arith, few)) hp)
 

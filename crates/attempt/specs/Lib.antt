@@ -1,3 +1,4 @@
 pub mod Change
 pub mod Entries
 pub mod Places
+pub mod Room

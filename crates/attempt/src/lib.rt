@@ -20,12 +20,13 @@ ghost use Prim.Native.Nat.{_<_, _≤_, min};
 ghost use Rattle.diagram.specs.Store.{store};
 ghost use Rattle.diagram.specs.Held.{held};
 ghost use Rattle.net.specs.Net.{lettersPlace, at as atPlace, netCircuit};
-ghost use Rattle.table.specs.Holds.{Sized, Outcome};
+ghost use Rattle.table.specs.Holds.{firstEntries, Lent, Outcome};
 ghost use Rattle.functions.specs.Open.{Open};
 ghost use Rattle.descent.specs.Descend.{Inner};
 ghost use Rattle.attempt.specs.Change.{changeBy};
 ghost use Rattle.attempt.specs.Entries.{Evaluable};
 ghost use Rattle.attempt.specs.Places.{RootsFor, PartOf};
+ghost use Rattle.attempt.specs.Room.{Roomy};
 
 // An attempt takes at most so many entries of working: one that fails there costs little beside the rule for each pattern.
 pub const MOST: usize = 4096;
@@ -67,7 +68,7 @@ fn part(entries: &[u32; ROOTS], from: usize) -> [u32; 26]
 }
 
 // Node n by the functions of its group in a working table; where it has no room for them, nothing is stored.
-// The table takes no more entries by then, so that the descent's memo may lie in its index.
+// The table takes no more entries by then, so that the descent's memo may lie in its index and in the numbers past it.
 fn attempt_in(
     net: &[u32],
     letter: &mut [u32],
@@ -84,12 +85,13 @@ fn attempt_in(
     n: u32,
     entries: &[u32; ROOTS],
 ) -> Tried
-    requires { ⌜ Inner (now net) n × Open (atPlace (now net) lettersPlace) (now letter) (now low) (now high) (now index) used × Evaluable (atPlace (now net) lettersPlace) (held (now letter) (now low) (now high) used) used (atPlace (now net) lettersPlace) (now entries) × Sized (now wletter) (now wlow) (now whigh) (now windex) ⌝ }
+    requires { ⌜ Inner (now net) n × Open (atPlace (now net) lettersPlace) (now letter) (now low) (now high) (now index) used × Evaluable (atPlace (now net) lettersPlace) (held (now letter) (now low) (now high) used) used (atPlace (now net) lettersPlace) (now entries) × Roomy (now wletter) (now wlow) (now whigh) (now windex) ⌝ }
     ensures { λ r. ⌜ (r .done ≡ true → Outcome (held (now (letter .entry)) (now (low .entry)) (now (high .entry)) used) (store (atPlace (now (net .entry)) lettersPlace) 0 (changeBy (netCircuit (now (net .entry))) time all n (atPlace (now (net .entry)) lettersPlace) (held (now (letter .entry)) (now (low .entry)) (now (high .entry)) used) (now (entries .entry))) (held (now (letter .entry)) (now (low .entry)) (now (high .entry)) used)) (now (letter .exit)) (now (low .exit)) (now (high .exit)) (now (index .exit)) (r .put)) × (r .done ≡ false → (now (letter .exit) ≡ now (letter .entry)) × (now (low .exit) ≡ now (low .entry)) × (now (high .exit) ≡ now (high .entry)) × (now (index .exit) ≡ now (index .entry))) ⌝ }
 {
     let k = net[net::LETTERS];
     let at = n as usize;
     let group = net[net::GROUP + at] as usize;
+    let places = 2 * wletter.len();
     let q = prepare(
         net,
         letter,
@@ -99,7 +101,7 @@ fn attempt_in(
         wletter,
         wlow,
         whigh,
-        windex,
+        &mut windex[..places],
         k,
         part(entries, 0),
         part(entries, AFTER),
@@ -142,7 +144,7 @@ fn attempt_in(
 }
 
 pub fn smaller(n: usize) -> usize
-    ensures { λ r. ⌜ r ≡ min n 4096 ⌝ }
+    ensures { λ r. ⌜ r ≡ min n firstEntries ⌝ }
 {
     if n < MOST { n } else { MOST }
 }
@@ -164,11 +166,10 @@ pub fn attempt(
     n: u32,
     entries: &[u32; ROOTS],
 ) -> Tried
-    requires { ⌜ Inner (now net) n × Open (atPlace (now net) lettersPlace) (now letter) (now low) (now high) (now index) used × Evaluable (atPlace (now net) lettersPlace) (held (now letter) (now low) (now high) used) used (atPlace (now net) lettersPlace) (now entries) × Sized (now wletter) (now wlow) (now whigh) (now windex) ⌝ }
+    requires { ⌜ Inner (now net) n × Open (atPlace (now net) lettersPlace) (now letter) (now low) (now high) (now index) used × Evaluable (atPlace (now net) lettersPlace) (held (now letter) (now low) (now high) used) used (atPlace (now net) lettersPlace) (now entries) × Lent (now wletter) (now wlow) (now whigh) (now windex) ⌝ }
     ensures { λ r. ⌜ (r .done ≡ true → Outcome (held (now (letter .entry)) (now (low .entry)) (now (high .entry)) used) (store (atPlace (now (net .entry)) lettersPlace) 0 (changeBy (netCircuit (now (net .entry))) time all n (atPlace (now (net .entry)) lettersPlace) (held (now (letter .entry)) (now (low .entry)) (now (high .entry)) used) (now (entries .entry))) (held (now (letter .entry)) (now (low .entry)) (now (high .entry)) used)) (now (letter .exit)) (now (low .exit)) (now (high .exit)) (now (index .exit)) (r .put)) × (r .done ≡ false → (now (letter .exit) ≡ now (letter .entry)) × (now (low .exit) ≡ now (low .entry)) × (now (high .exit) ≡ now (high .entry)) × (now (index .exit) ≡ now (index .entry))) ⌝ }
 {
     let size = smaller(wletter.len());
-    let places = 2 * size;
     attempt_in(
         net,
         letter,
@@ -179,7 +180,7 @@ pub fn attempt(
         &mut wletter[..size],
         &mut wlow[..size],
         &mut whigh[..size],
-        &mut windex[..places],
+        windex,
         time,
         all,
         n,

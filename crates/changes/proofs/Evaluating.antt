@@ -14,36 +14,13 @@ use Rattle.diagram.specs.Table.{Table, never, numberAt}
 use Rattle.diagram.specs.Held.{held}
 use Rattle.rules.specs.State.{isInner}
 use Rattle.net.specs.Roots.{changePlace}
-use Rattle.table.specs.Holds.{Sized}
 use Rattle.descent.specs.Settle.{leafAt}
 use Rattle.attempt.specs.Change.{changeFrom}
 use Rattle.attempt.specs.Entries.{Evaluable}
 use Rattle.values.proofs.Series.{Storing, storing-number, storing-longer}
-use Rattle.changes.specs.Changes.{entriesWith, entriesFor, changeWith, changeOf, ValueEntries, PendingEntries}
-use Rattle.changes.proofs.Placed.{entries-long, entries-before, entries-after, entries-such}
-
--- columns of the same lengths
-pub record SameLengths (l₀ w₀ h₀ ix₀ l w h ix : List ℕ) : Type 0 where
-  pub letter-long : length l ≡ length l₀
-  pub low-long : length w ≡ length w₀
-  pub high-long : length h ≡ length h₀
-  pub index-long : length ix ≡ length ix₀
-
-pub sized-again : {l₀ w₀ h₀ ix₀ l w h ix : List ℕ} → SameLengths l₀ w₀ h₀ ix₀ l w h ix → Sized l₀ w₀ h₀ ix₀ → Sized l w h ix
-sized-again e s = record {
-  least = rw (e .letter-long) (s .least);
-  most = rw (e .letter-long) (s .most);
-  low-long = e .low-long ∙ s .low-long ∙ sym (e .letter-long);
-  high-long = e .high-long ∙ s .high-long ∙ sym (e .letter-long);
-  even = rw (e .index-long) (s .even);
-  room = rw (e .letter-long, e .index-long) (s .room);
-}
-
--- the values and pending changes of all nodes
-pub record StepEntries (k : ℕ) (t : Table) (used : ℕ) (before after pending : List ℕ) : Type 0 where
-  pub first : ValueEntries k t used before
-  pub second : ValueEntries k t used after
-  pub third : PendingEntries used pending
+use Rattle.marked.specs.Changes.{entriesWith, entriesFor, changeWith, changeOf, ValueEntries}
+use Rattle.marked.proofs.Entries.{StepEntries}
+use Rattle.marked.proofs.Placed.{entries-long, entries-before, entries-after, entries-such}
 
 module _ {k : ℕ} {t : Table} {used : ℕ} {before after pending : List ℕ} (s : StepEntries k t used before after pending) {n : ℕ} (small : n < 26) where
   abbrev entries : List ℕ

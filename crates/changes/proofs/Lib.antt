@@ -1,12 +1,1 @@
-pub mod Cached
-pub mod Placed
-pub mod Single
-pub mod Rooting
 pub mod Evaluating
-pub mod Preparing
-pub mod Trying
-pub mod Stirring
-pub mod Resting
-pub mod Leasting
-pub mod Marking
-pub mod Mixing

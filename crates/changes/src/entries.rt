@@ -1,10 +1,10 @@
 // Next changes by entries of the lent table.
-use crate::NEVER;
 use evaluate::split::evaluate;
 use net::inner::is_inner;
 use net::roots::AFTER;
 use net::roots::CHANGE;
 use net::roots::ROOTS;
+use stir::rest::NEVER;
 use table::Put;
 use table::Stop;
 use table::stopped;
@@ -13,7 +13,7 @@ ghost use mathlib.Core.Path.{_≡_};
 ghost use mathlib.Core.List.{map};
 ghost use Rattle.diagram.specs.Store.{store};
 ghost use Rattle.diagram.specs.Held.{held};
-ghost use Rattle.table.specs.Holds.{Sized, Outcome};
+ghost use Rattle.table.specs.Holds.{Lent, Outcome};
 ghost use Rattle.functions.specs.Open.{Open};
 ghost use Rattle.rules.specs.State.{nodeNumbers};
 ghost use Rattle.rules.specs.Run.{storeAll};
@@ -21,7 +21,8 @@ ghost use Rattle.net.specs.Net.{lettersPlace, at as atPlace, netCircuit};
 ghost use Rattle.plain.specs.Ready.{Net, Noded};
 ghost use Rattle.attempt.specs.Entries.{Evaluable};
 ghost use Rattle.values.specs.All.{OutcomeAll};
-ghost use Rattle.changes.specs.Changes.{entriesWith, changeWith, changeOf, ValueEntries, PendingEntries};
+ghost use Rattle.stir.specs.Pending.{PendingEntries};
+ghost use Rattle.marked.specs.Changes.{entriesWith, changeWith, changeOf, ValueEntries};
 
 // The entries by which a node with a pending change is evaluated.
 fn entries_with(before: [u32; 26], after: [u32; 26], change: u32) -> [u32; ROOTS]
@@ -55,7 +56,7 @@ fn by_entries(
     n: u32,
     entries: &[u32; ROOTS],
 ) -> Put
-    requires { ⌜ Net (now net) × Noded (now net) n × Open (atPlace (now net) lettersPlace) (now letter) (now low) (now high) (now index) used × Evaluable (atPlace (now net) lettersPlace) (held (now letter) (now low) (now high) used) used (atPlace (now net) lettersPlace) (now entries) × Sized (now wletter) (now wlow) (now whigh) (now windex) ⌝ }
+    requires { ⌜ Net (now net) × Noded (now net) n × Open (atPlace (now net) lettersPlace) (now letter) (now low) (now high) (now index) used × Evaluable (atPlace (now net) lettersPlace) (held (now letter) (now low) (now high) used) used (atPlace (now net) lettersPlace) (now entries) × Lent (now wletter) (now wlow) (now whigh) (now windex) ⌝ }
     ensures { λ r. ⌜ Outcome (held (now (letter .entry)) (now (low .entry)) (now (high .entry)) used) (store (atPlace (now (net .entry)) lettersPlace) 0 (changeWith (netCircuit (now (net .entry))) time all (atPlace (now (net .entry)) lettersPlace) (held (now (letter .entry)) (now (low .entry)) (now (high .entry)) used) (now (entries .entry)) n) (held (now (letter .entry)) (now (low .entry)) (now (high .entry)) used)) (now (letter .exit)) (now (low .exit)) (now (high .exit)) (now (index .exit)) r ⌝ }
 {
     if !is_inner(net, n) {
@@ -103,7 +104,7 @@ pub fn all_by_entries(
     after: [u32; 26],
     pending: [u32; 26],
 ) -> Many
-    requires { ⌜ Net (now net) × Open (atPlace (now net) lettersPlace) (now letter) (now low) (now high) (now index) used × Sized (now wletter) (now wlow) (now whigh) (now windex) ⌝ }
+    requires { ⌜ Net (now net) × Open (atPlace (now net) lettersPlace) (now letter) (now low) (now high) (now index) used × Lent (now wletter) (now wlow) (now whigh) (now windex) ⌝ }
     requires { ⌜ ValueEntries (atPlace (now net) lettersPlace) (held (now letter) (now low) (now high) used) used before × ValueEntries (atPlace (now net) lettersPlace) (held (now letter) (now low) (now high) used) used after × PendingEntries used pending ⌝ }
     ensures { λ r. ⌜ OutcomeAll (held (now (letter .entry)) (now (low .entry)) (now (high .entry)) used) (storeAll (atPlace (now (net .entry)) lettersPlace) (map (changeOf (netCircuit (now (net .entry))) time all (atPlace (now (net .entry)) lettersPlace) (held (now (letter .entry)) (now (low .entry)) (now (high .entry)) used) before after pending) (nodeNumbers (netCircuit (now (net .entry))))) (held (now (letter .entry)) (now (low .entry)) (now (high .entry)) used)) (now (letter .exit)) (now (low .exit)) (now (high .exit)) (now (index .exit)) (r .stop) (r .used) (r .entries) ⌝ }
 {

@@ -1,32 +1,26 @@
 // The next changes of all nodes over all patterns, stored in node order (document 01, step rules 2 to 7).
 // Promise: what is stored is exactly `storeAll` of `changeOf` for every node; where it does not fit, that it stopped for want of room.
-// Internal to our crates: at rest the pending changes with T taken out; else by functions made once for all nodes that are not, in the first entries of working or in all of it, or node by node where it has no room.
+// Internal to our crates: at rest the pending changes with T taken out (crate stir); else by functions made once for all nodes that are not (crate marked), or node by node where working has no room for them.
 ghost use mathlib.Core.List.{map};
-ghost use Rattle.table.specs.Holds.{Sized};
+ghost use Rattle.table.specs.Holds.{Lent};
 ghost use Rattle.functions.specs.Open.{Open};
 ghost use Rattle.rules.specs.State.{nodeNumbers};
 ghost use Rattle.rules.specs.Run.{storeAll};
 ghost use Rattle.net.specs.Net.{lettersPlace, at as atPlace, netCircuit};
 ghost use Rattle.net.specs.Laid.{Laid};
 ghost use Rattle.values.specs.All.{OutcomeAll};
-ghost use Rattle.changes.specs.Changes.{changeOf, ValueEntries, PendingEntries, PendingLeasts};
+ghost use Rattle.stir.specs.Pending.{PendingEntries, PendingLeasts};
+ghost use Rattle.marked.specs.Changes.{changeOf, ValueEntries};
 ghost use Rattle.diagram.specs.Held.{held};
 
 mod entries;
-mod prepared;
-mod rest;
-mod roots;
-mod stir;
 
 use entries::all_by_entries;
-use prepared::by_functions;
-use rest::all_at_rest;
-use stir::stirred;
-use stir::stirred_nodes;
+use marked::tries::by_functions;
+use stir::marks::stirred;
+use stir::marks::stirred_nodes;
+use stir::rest::all_at_rest;
 use values::Many;
-
-// The entry of never.
-const NEVER: u32 = 2;
 
 // The next changes at T with every group looked at.
 fn reconsider(
@@ -47,7 +41,7 @@ fn reconsider(
     pending: [u32; 26],
     least: &[u32],
 ) -> Many
-    requires { ⌜ Laid (netCircuit (now net)) (now net) × Open (atPlace (now net) lettersPlace) (now letter) (now low) (now high) (now index) used × Sized (now wletter) (now wlow) (now whigh) (now windex) ⌝ }
+    requires { ⌜ Laid (netCircuit (now net)) (now net) × Open (atPlace (now net) lettersPlace) (now letter) (now low) (now high) (now index) used × Lent (now wletter) (now wlow) (now whigh) (now windex) ⌝ }
     requires { ⌜ ValueEntries (atPlace (now net) lettersPlace) (held (now letter) (now low) (now high) used) used before × ValueEntries (atPlace (now net) lettersPlace) (held (now letter) (now low) (now high) used) used after × PendingEntries used pending × PendingLeasts (atPlace (now net) lettersPlace) (held (now letter) (now low) (now high) used) pending (now least) ⌝ }
     ensures { λ r. ⌜ OutcomeAll (held (now (letter .entry)) (now (low .entry)) (now (high .entry)) used) (storeAll (atPlace (now (net .entry)) lettersPlace) (map (changeOf (netCircuit (now (net .entry))) time all (atPlace (now (net .entry)) lettersPlace) (held (now (letter .entry)) (now (low .entry)) (now (high .entry)) used) before after pending) (nodeNumbers (netCircuit (now (net .entry))))) (held (now (letter .entry)) (now (low .entry)) (now (high .entry)) used)) (now (letter .exit)) (now (low .exit)) (now (high .exit)) (now (index .exit)) (r .stop) (r .used) (r .entries) ⌝ }
 {
@@ -114,7 +108,7 @@ pub fn changes(
     pending: [u32; 26],
     least: &[u32],
 ) -> Many
-    requires { ⌜ Laid (netCircuit (now net)) (now net) × Open (atPlace (now net) lettersPlace) (now letter) (now low) (now high) (now index) used × Sized (now wletter) (now wlow) (now whigh) (now windex) ⌝ }
+    requires { ⌜ Laid (netCircuit (now net)) (now net) × Open (atPlace (now net) lettersPlace) (now letter) (now low) (now high) (now index) used × Lent (now wletter) (now wlow) (now whigh) (now windex) ⌝ }
     requires { ⌜ ValueEntries (atPlace (now net) lettersPlace) (held (now letter) (now low) (now high) used) used before × ValueEntries (atPlace (now net) lettersPlace) (held (now letter) (now low) (now high) used) used after × PendingEntries used pending × PendingLeasts (atPlace (now net) lettersPlace) (held (now letter) (now low) (now high) used) pending (now least) ⌝ }
     ensures { λ r. ⌜ OutcomeAll (held (now (letter .entry)) (now (low .entry)) (now (high .entry)) used) (storeAll (atPlace (now (net .entry)) lettersPlace) (map (changeOf (netCircuit (now (net .entry))) time all (atPlace (now (net .entry)) lettersPlace) (held (now (letter .entry)) (now (low .entry)) (now (high .entry)) used) before after pending) (nodeNumbers (netCircuit (now (net .entry))))) (held (now (letter .entry)) (now (low .entry)) (now (high .entry)) used)) (now (letter .exit)) (now (low .exit)) (now (high .exit)) (now (index .exit)) (r .stop) (r .used) (r .entries) ⌝ }
 {

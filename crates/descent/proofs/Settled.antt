@@ -57,7 +57,7 @@ module _ (c : Circuit) (legal : AllLegal (length (c .nodes)) (c .transistors)) (
       (bool-cases (isDriven c y))
 
   -- so each end of a transistor of the group is
-  group-ends : (t : Transistor) → List·Memᴰ t (c .transistors) → ofGroup c n t ≡ true
+  pub group-ends : (t : Transistor) → List·Memᴰ t (c .transistors) → ofGroup c n t ≡ true
       → ((inGroup c n (t .first) ≡ true) ⊎ (isDriven c (t .first) ≡ true)) × ((inGroup c n (t .second) ≡ true) ⊎ (isDriven c (t .second) ≡ true))
   group-ends t at e =
       let link : isInner c (t .first) ≡ true → isInner c (t .second) ≡ true → Linked c (c .transistors) (t .first) (t .second) =

@@ -8,8 +8,8 @@ use crate::live::narrow;
 use crate::memo::MEMO;
 use crate::memo::bucket;
 use crate::memo::forget;
-use crate::memo::keep;
 use crate::memo::look;
+use crate::memo::remember;
 use crate::quiet::quiet;
 use crate::settle::settled;
 use functions::numbers::TERMINAL;
@@ -111,8 +111,17 @@ fn down(
     let mut list: [u32; ROOTS] = [0; ROOTS];
     let total = narrow(net, n, roots, live, count, &mut kept, &mut list);
     let m = least_live(wletter, &kept, &list, total);
+    let slot = bucket(&kept, &list, total);
+    let old = look(memo, slot, &kept);
+    if old != 0 {
+        return Put {
+            stop: Stop::Going,
+            entry: old - 1,
+            used,
+        };
+    }
     if m == TERMINAL {
-        return leaf(
+        let p = leaf(
             net,
             wlow,
             &kept,
@@ -126,15 +135,7 @@ fn down(
             index,
             used,
         );
-    }
-    let slot = bucket(&kept, &list, total);
-    let old = look(memo, slot, &kept);
-    if old != 0 {
-        return Put {
-            stop: Stop::Going,
-            entry: old - 1,
-            used,
-        };
+        return remember(memo, slot, &kept, p);
     }
     let mut half: [u32; ROOTS] = [0; ROOTS];
     halve(wletter, wlow, &kept, &list, total, m, &mut half);
@@ -188,12 +189,7 @@ fn down(
         return q;
     }
     let r = join(letter, low, high, index, q.used, m, p.entry, q.entry);
-    let why = r.stop;
-    if stopped(why) {
-        return r;
-    }
-    keep(memo, slot, &kept, r.entry);
-    r
+    remember(memo, slot, &kept, r)
 }
 
 // The next change of node n at every pattern, by the roots in the working columns, whose letters are among the last `left` of the k,

@@ -1,14 +1,18 @@
 // A memo of a descent: a word for each slot, 0 where it is free, else its entry and one more; then the roots of each slot.
 ghost use mathlib.Core.Path.{_≡_};
+ghost use mathlib.Core.Bool.{false};
 ghost use Prim.Native.Nat.{ℕ, _<_, _≤_};
 ghost use lib.ListN.{length, getD};
 ghost use Rattle.descent.specs.Live.{Places};
 ghost use Rattle.descent.specs.Memo.{slots, memoLength, Looked, Remembered};
+ghost use Rattle.table.specs.Stop.{stopped};
 ghost use Rattle.net.specs.Roots.{rootsLength};
 use net::roots::ROOTS;
+use table::Put;
+use table::stopped;
 
-// As many as the index of a working table of 4,096 entries has room for.
-const SLOTS: usize = 88;
+// So many that what a descent comes back to is mostly still there.
+const SLOTS: usize = 352;
 
 pub const MEMO: usize = SLOTS * (ROOTS + 1);
 
@@ -52,7 +56,7 @@ pub fn bucket(roots: &[u32; ROOTS], live: &[u32; ROOTS], count: u32) -> usize
         h = mix(h, place, roots[j]);
         i += 1;
     }
-    (h * 88 / 1048576) as usize
+    (h * 352 / 1048576) as usize
 }
 
 // The word of a slot whose roots are these, or 0.
@@ -79,7 +83,7 @@ pub fn look(memo: &[u32], slot: usize, roots: &[u32; ROOTS]) -> u32
 }
 
 // Gives a slot these roots and their entry.
-pub fn keep(memo: &mut [u32], slot: usize, roots: &[u32; ROOTS], e: u32)
+fn keep(memo: &mut [u32], slot: usize, roots: &[u32; ROOTS], e: u32)
     requires { ⌜ (slot < slots) × (e < 4294967295) ⌝ }
     requires { ⌜ (memoLength ≤ length (now memo)) × (length (now roots) ≡ rootsLength) ⌝ }
     ensures { λ r. ⌜ Remembered (now (memo .entry)) slot (now (roots .entry)) e (now (memo .exit)) ⌝ }
@@ -91,4 +95,19 @@ pub fn keep(memo: &mut [u32], slot: usize, roots: &[u32; ROOTS], e: u32)
         i += 1;
     }
     memo[slot] = e + 1;
+}
+
+// Gives a slot these roots and the entry that was stored for them; where storing stopped, the memo stays as it was.
+pub fn remember(memo: &mut [u32], slot: usize, roots: &[u32; ROOTS], p: Put) -> Put
+    requires { ⌜ (slot < slots) × (stopped (p .stop) ≡ false → p .entry < 4294967295) ⌝ }
+    requires { ⌜ (memoLength ≤ length (now memo)) × (length (now roots) ≡ rootsLength) ⌝ }
+    ensures { λ r. ⌜ r ≡ p ⌝ }
+    ensures { λ _. ⌜ (stopped (p .stop) ≡ false → Remembered (now (memo .entry)) slot (now (roots .entry)) (p .entry) (now (memo .exit))) ⌝ }
+{
+    let why = p.stop;
+    if stopped(why) {
+        return p;
+    }
+    keep(memo, slot, roots, p.entry);
+    p
 }

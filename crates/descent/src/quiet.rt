@@ -1,119 +1,14 @@
 // The next change where no pattern is touched: the pending change with T taken out.
-use cache::WORDS;
-use cache::look;
 use functions::numbers::TERMINAL;
-use functions::step::join_kept;
+use functions::step::join;
 use plain::settle::pending_after;
 use table::Put;
-use table::Stop;
 use table::stopped;
-ghost use mathlib.Core.Path.{_≡_};
-ghost use mathlib.Core.Bool.{false};
-ghost use Prim.Native.Nat.{_≤_};
-ghost use lib.ListN.{length};
-ghost use Rattle.cache.specs.Cache.{Cache};
 ghost use Rattle.diagram.specs.Store.{store};
 ghost use Rattle.diagram.specs.Held.{held};
-ghost use Rattle.table.specs.Stop.{stopped};
 ghost use Rattle.table.specs.Holds.{Outcome};
 ghost use Rattle.functions.specs.Open.{Legible, Open, Operand};
-ghost use Rattle.functions.specs.Known.{Means};
 ghost use Rattle.descent.specs.Settle.{pendingBy};
-
-// Entry `e` of the working columns, whose letters are among the last `left` of the k, with T taken out. With a cache of such entries that were stored before.
-fn quiet_in(
-    wletter: &[u32],
-    wlow: &[u32],
-    whigh: &[u32],
-    wused: u32,
-    letter: &mut [u32],
-    low: &mut [u32],
-    high: &mut [u32],
-    index: &mut [u32],
-    used: u32,
-    k: u32,
-    time: u32,
-    e: u32,
-    left: u32,
-    cache: &mut [u32],
-) -> Put
-    requires { ⌜ Legible k (now wletter) (now wlow) (now whigh) wused × Operand k (held (now wletter) (now wlow) (now whigh) wused) wused left e ⌝ }
-    requires { ⌜ Open k (now letter) (now low) (now high) (now index) used ⌝ }
-    requires { ⌜ (4 ≤ length (now cache)) × Cache (λ a _ _ e. Means k (held (now letter) (now low) (now high) used) e (pendingBy time k (held (now wletter) (now wlow) (now whigh) wused) a)) (now cache) ⌝ }
-    ensures { λ r. ⌜ Outcome (held (now (letter .entry)) (now (low .entry)) (now (high .entry)) used) (store k 0 (pendingBy time k (held (now (wletter .entry)) (now (wlow .entry)) (now (whigh .entry)) wused) e) (held (now (letter .entry)) (now (low .entry)) (now (high .entry)) used)) (now (letter .exit)) (now (low .exit)) (now (high .exit)) (now (index .exit)) r ⌝ }
-    ensures { λ r. ⌜ (stopped (r .stop) ≡ false → Cache (λ a _ _ e. Means k (held (now (letter .exit)) (now (low .exit)) (now (high .exit)) (r .used)) e (pendingBy time k (held (now (wletter .entry)) (now (wlow .entry)) (now (whigh .entry)) wused) a)) (now (cache .exit))) ⌝ }
-{
-    let i = e as usize;
-    let m = wletter[i];
-    let a = wlow[i];
-    let b = whigh[i];
-    if m == TERMINAL {
-        let v = pending_after(time, a);
-        return table::add(letter, low, high, index, used, TERMINAL, v, 0);
-    }
-    let old = look(cache, e, 0, 0);
-    if old != 0 {
-        return Put {
-            stop: Stop::Going,
-            entry: old - 1,
-            used,
-        };
-    }
-    let p = quiet_in(
-        wletter,
-        wlow,
-        whigh,
-        wused,
-        letter,
-        low,
-        high,
-        index,
-        used,
-        k,
-        time,
-        a,
-        left - 1,
-        cache,
-    );
-    let why = p.stop;
-    if stopped(why) {
-        return p;
-    }
-    let q = quiet_in(
-        wletter,
-        wlow,
-        whigh,
-        wused,
-        letter,
-        low,
-        high,
-        index,
-        p.used,
-        k,
-        time,
-        b,
-        left - 1,
-        cache,
-    );
-    let why = q.stop;
-    if stopped(why) {
-        return q;
-    }
-    join_kept(
-        letter,
-        low,
-        high,
-        index,
-        q.used,
-        m,
-        p.entry,
-        q.entry,
-        cache,
-        e,
-        0,
-        0,
-    )
-}
 
 // Entry `e` of the working columns, whose letters are among the last `left` of the k, with T taken out.
 pub fn quiet(
@@ -138,12 +33,12 @@ pub fn quiet(
     let i = e as usize;
     let m = wletter[i];
     let a = wlow[i];
+    let b = whigh[i];
     if m == TERMINAL {
         let v = pending_after(time, a);
         return table::add(letter, low, high, index, used, TERMINAL, v, 0);
     }
-    let mut cache: [u32; WORDS] = [0; WORDS];
-    quiet_in(
+    let p = quiet(
         wletter,
         wlow,
         whigh,
@@ -155,8 +50,31 @@ pub fn quiet(
         used,
         k,
         time,
-        e,
-        left,
-        &mut cache,
-    )
+        a,
+        left - 1,
+    );
+    let why = p.stop;
+    if stopped(why) {
+        return p;
+    }
+    let q = quiet(
+        wletter,
+        wlow,
+        whigh,
+        wused,
+        letter,
+        low,
+        high,
+        index,
+        p.used,
+        k,
+        time,
+        b,
+        left - 1,
+    );
+    let why = q.stop;
+    if stopped(why) {
+        return q;
+    }
+    join(letter, low, high, index, q.used, m, p.entry, q.entry)
 }

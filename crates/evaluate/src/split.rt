@@ -15,7 +15,7 @@ ghost use Prim.Native.Nat.{_≤_};
 ghost use Rattle.diagram.specs.Store.{store};
 ghost use Rattle.diagram.specs.Held.{held};
 ghost use Rattle.net.specs.Net.{lettersPlace, at as atPlace, netCircuit};
-ghost use Rattle.table.specs.Holds.{Sized, Outcome};
+ghost use Rattle.table.specs.Holds.{Lent, Outcome};
 ghost use Rattle.functions.specs.Open.{Open};
 ghost use Rattle.plain.specs.Ready.{Net};
 ghost use Rattle.descent.specs.Descend.{Inner, Entries};
@@ -57,7 +57,7 @@ fn tried(
     entries: &[u32; ROOTS],
     left: u32,
 ) -> Tried
-    requires { ⌜ Inner (now net) n × Open (atPlace (now net) lettersPlace) (now letter) (now low) (now high) (now index) used × Evaluable (atPlace (now net) lettersPlace) (held (now letter) (now low) (now high) used) used (atPlace (now net) lettersPlace) (now entries) × Sized (now wletter) (now wlow) (now whigh) (now windex) ⌝ }
+    requires { ⌜ Inner (now net) n × Open (atPlace (now net) lettersPlace) (now letter) (now low) (now high) (now index) used × Evaluable (atPlace (now net) lettersPlace) (held (now letter) (now low) (now high) used) used (atPlace (now net) lettersPlace) (now entries) × Lent (now wletter) (now wlow) (now whigh) (now windex) ⌝ }
     ensures { λ r. ⌜ (r .done ≡ true → Outcome (held (now (letter .entry)) (now (low .entry)) (now (high .entry)) used) (store (atPlace (now (net .entry)) lettersPlace) 0 (changeBy (netCircuit (now (net .entry))) time all n (atPlace (now (net .entry)) lettersPlace) (held (now (letter .entry)) (now (low .entry)) (now (high .entry)) used) (now (entries .entry))) (held (now (letter .entry)) (now (low .entry)) (now (high .entry)) used)) (now (letter .exit)) (now (low .exit)) (now (high .exit)) (now (index .exit)) (r .put)) × (r .done ≡ false → (now (letter .exit) ≡ now (letter .entry)) × (now (low .exit) ≡ now (low .entry)) × (now (high .exit) ≡ now (high .entry)) × (now (index .exit) ≡ now (index .entry))) ⌝ }
 {
     if left < FEW {
@@ -106,7 +106,7 @@ pub fn evaluate(
     entries: &[u32; ROOTS],
     left: u32,
 ) -> Put
-    requires { ⌜ Inner (now net) n × Open (atPlace (now net) lettersPlace) (now letter) (now low) (now high) (now index) used × Evaluable (atPlace (now net) lettersPlace) (held (now letter) (now low) (now high) used) used left (now entries) × Sized (now wletter) (now wlow) (now whigh) (now windex) × (left ≤ atPlace (now net) lettersPlace) ⌝ }
+    requires { ⌜ Inner (now net) n × Open (atPlace (now net) lettersPlace) (now letter) (now low) (now high) (now index) used × Evaluable (atPlace (now net) lettersPlace) (held (now letter) (now low) (now high) used) used left (now entries) × Lent (now wletter) (now wlow) (now whigh) (now windex) × (left ≤ atPlace (now net) lettersPlace) ⌝ }
     ensures { λ r. ⌜ Outcome (held (now (letter .entry)) (now (low .entry)) (now (high .entry)) used) (store (atPlace (now (net .entry)) lettersPlace) 0 (changeBy (netCircuit (now (net .entry))) time all n (atPlace (now (net .entry)) lettersPlace) (held (now (letter .entry)) (now (low .entry)) (now (high .entry)) used) (now (entries .entry))) (held (now (letter .entry)) (now (low .entry)) (now (high .entry)) used)) (now (letter .exit)) (now (low .exit)) (now (high .exit)) (now (index .exit)) r ⌝ }
 {
     let some = letters_left(net, letter, entries);

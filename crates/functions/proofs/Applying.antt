@@ -12,22 +12,16 @@ use Rattle.diagram.specs.Store.{add, store}
 use Rattle.diagram.specs.Operation.{apply, applied}
 use Rattle.diagram.specs.Held.{entries, held}
 use Rattle.diagram.proofs.Sound.{Sound}
-use Rattle.diagram.proofs.Number.{numberAt-extends}
 use Rattle.diagram.proofs.Shannon.{apply-terminals, apply-parts, apply-extends}
 use Rattle.table.specs.declared.Put.{Put}
 use Rattle.table.specs.Holds.{Outcome}
 use Rattle.functions.specs.Open.{Open, Operand, PartsOf}
 use Rattle.functions.proofs.Carry.{legible-sound, legible-long, letter-at, low-at, parts-table, branch-letter, past-letter, part-operands}
-use Rattle.functions.proofs.Known.{Stable}
 use Rattle.functions.proofs.Halving.{Halves}
 
 -- the terminal of a number that is known otherwise
 pub leaf-done : {t : Table} {l w h ix : List ℕ} {r : Put} (v x : ℕ) → v ≡ x → Outcome t (add (branch terminalLetter v 0) t) l w h ix r → Outcome t (add (terminal x) t) l w h ix r
 leaf-done {t} {l} {w} {h} {ix} {r} v x e o = subst (λ (y : ℕ). Outcome t (add (terminal y) t) l w h ix r) e o
-
--- the operation makes the same in every extension
-pub apply-stable : (letters : ℕ) (o : Operation) → Stable letters (λ t a b _. applied letters t o a b)
-apply-stable letters o = record { same = λ few s x a b c p ha hb hc. rw (numberAt-extends a p few s x ha, numberAt-extends b p few s x hb) }
 
 -- operands a and b of letters among the last `left`, and m, the least of their letters
 module _ {letters : ℕ} {l w h ix : List ℕ} {used : ℕ} (open' : Open letters l w h ix used) (o : Operation) {a b left m : ℕ}

@@ -1,9 +1,8 @@
 pub mod Carry
+pub mod Branches
 pub mod Known
 pub mod Halving
 pub mod Keeping
 pub mod Applying
 pub mod Chosen
 pub mod Choosing
-pub mod Fixing
-pub mod Reading

@@ -2,12 +2,10 @@
 use mathlib.Core.Path.{_≡_}
 use mathlib.Core.List.{List}
 use mathlib.Core.Bool.{true}
-use Prim.Native.Nat.{ℕ, _+_, _<_, _≤_, _^_}
+use Prim.Native.Nat.{ℕ, _+_, _<_, _≤_}
 use lib.ListN.{length}
-use lib.Dec.{eqb}
-use Rattle.lists.specs.Tests.{countBelow}
 use Rattle.diagram.specs.Pattern.{mostLetters}
-use Rattle.diagram.specs.Table.{Table, entryAt, partOf, numberFrom}
+use Rattle.diagram.specs.Table.{Table, entryAt, partOf}
 use Rattle.diagram.specs.Sound.{sound}
 use Rattle.diagram.specs.Held.{held}
 use Rattle.table.specs.Holds.{Holds}
@@ -34,7 +32,3 @@ pub record Operand (letters : ℕ) (t : Table) (used left e : ℕ) : Type 0 wher
 pub record PartsOf (t : Table) (m e low high : ℕ) : Type 0 where
   pub low-is : low ≡ partOf t m 0 e
   pub high-is : high ≡ partOf t m 1 e
-
--- the count of the patterns of the n letters from letter k on at which an entry is 1
-abbrev pub countFrom : ℕ → ℕ → Table → ℕ → ℕ
-countFrom n k t e = countBelow (2 ^ n) (λ p. eqb (numberFrom n k t e p) 1)

@@ -3,7 +3,7 @@
 // Crate listing makes the calls and prints; the columns are only read here, so that a wrong line is refused quickly.
 use fields::line::put_refused;
 use format::Header;
-use functions::read::count;
+use operations::read::count;
 use record::Run;
 use refusal::Refusal;
 use refusal::Reply;

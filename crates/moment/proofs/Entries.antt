@@ -28,7 +28,8 @@ use Rattle.record.specs.Record.{runOf}
 use Rattle.record.specs.Leasts.{Leasts}
 use Rattle.record.proofs.Leasts.{leasts-less, leasts-same, leasts-three}
 use Rattle.values.specs.All.{OutcomeAll}
-use Rattle.changes.specs.Changes.{changeOf, ValueEntries, PendingEntries, PendingLeasts}
+use Rattle.stir.specs.Pending.{PendingEntries, PendingLeasts}
+use Rattle.marked.specs.Changes.{changeOf, ValueEntries}
 use Rattle.moment.specs.ByNode.{ByNode}
 use Rattle.moment.proofs.Storing.{Numbering, placed-numbering, placed-within, values-placed, changes-placed, step-change, start-change}
 use Rattle.moment.proofs.Moments.{mid-sound, mid-extends, mid-long, mid-within, mid-number}

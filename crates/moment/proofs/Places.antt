@@ -12,7 +12,7 @@ use Rattle.lists.proofs.Map.{map-at}
 use Rattle.diagram.specs.Table.{Table, numberAt}
 use Rattle.net.specs.Roots.{rootsLength, changePlace}
 use Rattle.descent.specs.Settle.{leafAt}
-use Rattle.changes.specs.Changes.{entriesFor}
+use Rattle.marked.specs.Changes.{entriesFor}
 use Rattle.moment.specs.ByNode.{ByNode}
 
 -- the rails' entries alone

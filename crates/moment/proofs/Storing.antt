@@ -24,7 +24,8 @@ use Rattle.rules.proofs.Arrive.{arrived-change, untouched-keeps}
 use Rattle.rules.proofs.Step.{input-not-reconsidered, started-change, startedChange}
 use Rattle.rules.proofs.StoreAll.{noFunction, storeAll-ext}
 use Rattle.descent.specs.Settle.{leafAt}
-use Rattle.changes.specs.Changes.{entriesFor, changeOf, ValueEntries, PendingEntries}
+use Rattle.stir.specs.Pending.{PendingEntries}
+use Rattle.marked.specs.Changes.{entriesFor, changeOf, ValueEntries}
 use Rattle.moment.specs.ByNode.{ByNode}
 use Rattle.moment.proofs.Alike.{Shown, shown-step, shown-start}
 use Rattle.moment.proofs.Places.{number-before, number-after, number-pending}

@@ -27,7 +27,8 @@ use Rattle.record.specs.Record.{runOf}
 use Rattle.record.specs.Moments.{momentHeld}
 use Rattle.record.specs.Leasts.{Leasts}
 use Rattle.values.specs.All.{OutcomeAll}
-use Rattle.changes.specs.Changes.{changeOf, ValueEntries, PendingEntries, PendingLeasts}
+use Rattle.stir.specs.Pending.{PendingEntries, PendingLeasts}
+use Rattle.marked.specs.Changes.{changeOf, ValueEntries}
 use Rattle.moment.specs.ByNode.{ByNode, Gathers}
 use Rattle.moment.specs.Next.{NextAs}
 use Rattle.moment.proofs.Moments.{values-over, mid-open, mid-next}

@@ -12,7 +12,7 @@ use values::source::sources;
 ghost use mathlib.Core.Path.{_≡_};
 ghost use mathlib.Core.Bool.{true};
 ghost use Prim.Native.Nat.{_≤_};
-ghost use Rattle.table.specs.Holds.{Sized};
+ghost use Rattle.table.specs.Holds.{Lent};
 ghost use Rattle.functions.specs.Open.{Open};
 ghost use Rattle.rules.specs.Run.{startMoment, timeAfter, stepMoment, runSound};
 ghost use Rattle.record.specs.Record.{runOf};
@@ -95,7 +95,7 @@ pub fn start(
     whigh: &mut [u32],
     windex: &mut [u32],
 ) -> Next
-    requires { ⌜ Laid (netCircuit (now net)) (now net) × Open (atPlace (now net) lettersPlace) (now letter) (now low) (now high) (now index) used × Sized (now wletter) (now wlow) (now whigh) (now windex) ⌝ }
+    requires { ⌜ Laid (netCircuit (now net)) (now net) × Open (atPlace (now net) lettersPlace) (now letter) (now low) (now high) (now index) used × Lent (now wletter) (now wlow) (now whigh) (now windex) ⌝ }
     ensures { λ x. ⌜ NextAs (held (now (letter .entry)) (now (low .entry)) (now (high .entry)) used) (startMoment (netCircuit (now (net .entry))) (held (now (letter .entry)) (now (low .entry)) (now (high .entry)) used)) (now (letter .exit)) (now (low .exit)) (now (high .exit)) (now (index .exit)) (x .stop) (x .run) ⌝ }
 {
     let v = sources(net, letter, low, high, index, used);
@@ -145,7 +145,7 @@ pub fn step(
     time: u32,
     least: &[u32],
 ) -> Next
-    requires { ⌜ Laid (netCircuit (now net)) (now net) × Open (atPlace (now net) lettersPlace) (now letter) (now low) (now high) (now index) (r .used) × Sized (now wletter) (now wlow) (now whigh) (now windex) ⌝ }
+    requires { ⌜ Laid (netCircuit (now net)) (now net) × Open (atPlace (now net) lettersPlace) (now letter) (now low) (now high) (now index) (r .used) × Lent (now wletter) (now wlow) (now whigh) (now windex) ⌝ }
     requires { ⌜ (runSound (netCircuit (now net)) (held (now letter) (now low) (now high) (r .used)) (runOf (netCircuit (now net)) r) ≡ true) × (time ≡ timeAfter (netCircuit (now net)) (momentHeld (now letter) (now low) (now high) (runOf (netCircuit (now net)) r))) × Leasts (atPlace (now net) lettersPlace) (held (now letter) (now low) (now high) (r .used)) (r .used) (now least) ⌝ }
     ensures { λ x. ⌜ NextAs (held (now (letter .entry)) (now (low .entry)) (now (high .entry)) (r .used)) (stepMoment (netCircuit (now (net .entry))) (momentHeld (now (letter .entry)) (now (low .entry)) (now (high .entry)) (runOf (netCircuit (now (net .entry))) r))) (now (letter .exit)) (now (low .exit)) (now (high .exit)) (now (index .exit)) (x .stop) (x .run) ⌝ }
 {

@@ -24,7 +24,8 @@ use Rattle.table.specs.declared.Put.{Put}
 use Rattle.table.specs.declared.Stop.the-variants.{Going}
 use Rattle.table.specs.Stop.{stopped}
 use Rattle.functions.specs.Open.{Open}
-use Rattle.working.specs.Grown.{Means, bit, Grown}
+use Rattle.functions.specs.Known.{Means}
+use Rattle.working.specs.Grown.{bit, Grown}
 use Rattle.working.specs.Many.{AllUsed, Filled}
 use Rattle.working.proofs.Grow.{is-zero, is-one, open-few, open-sound, grown-same, grown-then, grown-there, grown-number}
 use Rattle.working.proofs.Fill.{number-kept, means-own, means-zero, means-used, used-kept, filled-set, filled-same, filled-from}

@@ -118,7 +118,7 @@ pub fn prepare(
     only: usize,
 ) -> Prepared
     requires { ⌜ Laid (netCircuit (now net)) (now net) × Legible k (now tletter) (now tlow) (now thigh) tused × Sized (now letter) (now low) (now high) (now index) ⌝ }
-    requires { ⌜ AllUsed (firstNodeNumber + atPlace (now net) nodesPlace) before tused × AllUsed (firstNodeNumber + atPlace (now net) nodesPlace) after tused × AllUsed (firstNodeNumber + atPlace (now net) nodesPlace) pending tused × Bits k (held (now tletter) (now tlow) (now thigh) tused) before (firstNodeNumber + atPlace (now net) nodesPlace) × Bits k (held (now tletter) (now tlow) (now thigh) tused) after (firstNodeNumber + atPlace (now net) nodesPlace) ⌝ }
+    requires { ⌜ AllUsed (firstNodeNumber + atPlace (now net) nodesPlace) before tused × AllUsed (firstNodeNumber + atPlace (now net) nodesPlace) after tused × AllUsed (firstNodeNumber + atPlace (now net) nodesPlace) pending tused × Bits k (held (now tletter) (now tlow) (now thigh) tused) after (firstNodeNumber + atPlace (now net) nodesPlace) ⌝ }
     ensures { λ r. ⌜ (stopped (r .stop) ≡ false → Roots (now (net .entry)) k (held (now (tletter .entry)) (now (tlow .entry)) (now (thigh .entry)) tused) before after pending all only (now (letter .exit)) (now (low .exit)) (now (high .exit)) (now (index .exit)) (r .used) (r .roots)) × (stopped (r .stop) ≡ true → Open k (now (letter .exit)) (now (low .exit)) (now (high .exit)) (now (index .exit)) (length (now (letter .exit)))) ⌝ }
 {
     begin(letter, low, high, index, k);

@@ -18,7 +18,7 @@ use Rattle.rules.specs.Run.{leastBelow}
 use Rattle.rules.proofs.Time.{least-below, least-own}
 use Rattle.functions.specs.Open.{Legible}
 use Rattle.functions.proofs.Carry.{legible-sound, legible-long, letter-at, low-at, high-at}
-use Rattle.functions.proofs.Reading.{number-leaf}
+use Rattle.operations.proofs.Reading.{number-leaf}
 use Rattle.diagram.specs.Held.{held}
 use Rattle.record.specs.Numbers.{among, allAmong, entryAmong, leastOf}
 use Rattle.record.proofs.LeastBelow.{least-never, least-greatest}

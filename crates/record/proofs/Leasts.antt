@@ -15,7 +15,7 @@ use Rattle.diagram.proofs.Add.{Extends}
 use Rattle.diagram.proofs.Number.{numberAt-extends, number-zeroth, number-first, number-second}
 use Rattle.rules.proofs.Time.{least-below, least-own, least-same}
 use Rattle.functions.specs.Open.{Legible}
-use Rattle.functions.proofs.Reading.{low-earlier, high-earlier}
+use Rattle.functions.proofs.Branches.{low-earlier, high-earlier}
 use Rattle.diagram.specs.Held.{held}
 use Rattle.record.specs.Numbers.{leastOf, leastAmong, leastListed}
 use Rattle.record.specs.Leasts.{Leasts}

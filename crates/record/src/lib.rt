@@ -6,8 +6,8 @@ pub mod least;
 mod places;
 
 use functions::numbers;
-use functions::read;
 use net::quantities::horizon;
+use operations::read;
 ghost use mathlib.Core.Path.{_≡_};
 ghost use mathlib.Core.Bool.{true};
 ghost use Prim.Native.Nat.{_+_, _<_, _≤_};

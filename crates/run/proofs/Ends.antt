@@ -4,7 +4,8 @@ use mathlib.Core.List.{List}
 use mathlib.Core.Bool.{Bool, true, false, _&&_, cond}
 use Prim.Native.Nat.{ℕ, zero, suc}
 use native.Mathlib.Nat.{sub-zero}
-use lib.ListN.{length, replicate}
+use native.Mathlib.Omega.{arith}
+use lib.ListN.{length, replicate, length-replicate}
 use lib.Dec.{leb, ltb, eqb}
 use Rattle.refusal.specs.declared.Refusal.{Refusal}
 use Rattle.refusal.specs.declared.Refusal.the-variants.{Buffer, Unsound, Finished, Full}
@@ -22,7 +23,8 @@ use Rattle.diagram.proofs.Columns.{columns-path}
 use Rattle.rules.specs.Run.{Moment, startMoment, timeAfter, stepMoment, fitting, continued, runMoment}
 use Rattle.rules.specs.Call.{leastWorking, workingLegal, momentGiven, soundTogether, startCall, stepCall, runCall}
 use Rattle.rules.proofs.Admitted.{admitting}
-use Rattle.table.specs.Holds.{zeroFrom}
+use Rattle.table.specs.Holds.{Lent, zeroFrom}
+use Rattle.table.proofs.Entering.{lent}
 use Rattle.record.specs.declared.Run.{Run}
 use Rattle.advance.specs.declared.Task.{Task}
 use Rattle.advance.specs.declared.Task.the-variants.{Start, Step, Until}
@@ -33,8 +35,12 @@ use Rattle.run.specs.Replied.{Replied}
 use Rattle.run.proofs.Cells.{Other, answered-other, check-other}
 
 -- working of legal lengths
-pub working-lengths : (w : Columns) → workingLegal w ≡ true → lengthsLegal w ≡ true
+working-lengths : (w : Columns) → workingLegal w ≡ true → lengthsLegal w ≡ true
 working-lengths w e = and-left (lengthsLegal w) (leb leastWorking (length (w .letter))) e
+
+-- with the index that is lent beside it
+pub working-lent : (l w h : List ℕ) → workingLegal (columns l w h) ≡ true → Lent l w h (replicate 32768 0)
+working-lent l w h e = lent {l = l} {w = w} {h = h} {ix = replicate 32768 0} (working-lengths (columns l w h) e) (omega (arith, length-replicate {A = ℕ} 32768 0))
 
 -- table and working of legal lengths
 pub both-legal : {x : Bool} (table working : Columns) → x ≡ (lengthsLegal table && workingLegal working) → x ≡ true → (lengthsLegal table ≡ true) × (workingLegal working ≡ true)

@@ -1,6 +1,6 @@
 // The run question.
 use cell::Cell;
-use functions::read::is_pattern;
+use operations::read::is_pattern;
 use record::Run;
 use record::run_sound;
 use record::wire_at;

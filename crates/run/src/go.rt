@@ -70,9 +70,10 @@ fn on_legal(
 {
     let net = net::lay(cell);
     let n = index_len(letter.len());
-    let m = index_len(wletter.len());
     let mut index = [0u32; 131072];
-    let mut windex = [0u32; 131072];
+    // enough for an index of the first entries of working, in which almost every step is done, and for the memo of a descent; cleared in
+    // less time than an index of all
+    let mut windex = [0u32; 32768];
     let went = advance(
         &net,
         task,
@@ -84,7 +85,7 @@ fn on_legal(
         wletter,
         wlow,
         whigh,
-        &mut windex[..m],
+        &mut windex,
     );
     clear(wletter, wlow, whigh, 0);
     went

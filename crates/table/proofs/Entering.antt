@@ -2,7 +2,7 @@
 use mathlib.Core.Path.{_≡_, refl, sym, _∙_, ap, subst}
 use mathlib.Core.List.{List, _∷_}
 use mathlib.Core.Bool.{true, false, true≢false}
-use Prim.Native.Nat.{ℕ, zero, suc, _+_, _/_, _<_, _≤_}
+use Prim.Native.Nat.{ℕ, zero, suc, _+_, _*_, _/_, _<_, _≤_}
 use native.Mathlib.Numerals.{add-one}
 use native.Mathlib.Omega.{arith}
 use lib.ListN.{length, getD, set, take, replicate, length-set, length-replicate}
@@ -14,7 +14,7 @@ use Rattle.diagram.proofs.Sound.{entry-path}
 use Rattle.diagram.proofs.Columns.{Lengths, lengths-record, lengths-test}
 use Rattle.diagram.proofs.Held.{entries-at}
 use Rattle.table.specs.Index.{bucket, Indexed, linked}
-use Rattle.table.specs.Holds.{Sized, Ready, Sought, Empty, IndexLength}
+use Rattle.table.specs.Holds.{Sized, firstEntries, Lent, Ready, Sought, Empty, IndexLength}
 use Rattle.table.specs.Steps.{Entered}
 use Rattle.table.proofs.Index.{indexed-none, indexed-agree, indexed-next}
 
@@ -36,6 +36,26 @@ sized-again s a b c d = record {
   low-long = omega (arith, s .low-long);
   high-long = omega (arith, s .high-long);
   even = rw d (s .even);
+  room = rw (a, d) (s .room);
+}
+
+-- columns of legal lengths with an index for their first entries
+pub lent : {l w h ix : List ℕ} → lengthsLegal (columns l w h) ≡ true → 2 * firstEntries ≤ length ix → Lent l w h ix
+lent {l} {w} {h} {ix} e n =
+    let long : Lengths (columns l w h) = lengths-record (columns l w h) e in
+    record { least = long .least; most = long .most; low-long = long .low-long; high-long = long .high-long; room = omega arith }
+
+-- they are of legal lengths
+pub lent-legal : {l w h ix : List ℕ} → Lent l w h ix → lengthsLegal (columns l w h) ≡ true
+lent-legal {l} {w} {h} s = lengths-test (columns l w h) (record { least = s .least; most = s .most; low-long = s .low-long; high-long = s .high-long })
+
+-- others of the same lengths
+pub lent-again : {l w h ix l1 w1 h1 ix1 : List ℕ} → Lent l w h ix → length l1 ≡ length l → length w1 ≡ length w → length h1 ≡ length h → length ix1 ≡ length ix → Lent l1 w1 h1 ix1
+lent-again s a b c d = record {
+  least = omega (arith, s .least);
+  most = omega (arith, s .most);
+  low-long = omega (arith, s .low-long);
+  high-long = omega (arith, s .high-long);
   room = rw (a, d) (s .room);
 }
 

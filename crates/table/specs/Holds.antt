@@ -2,7 +2,7 @@
 use mathlib.Core.Path.{_≡_}
 use mathlib.Core.List.{List, _++_}
 use mathlib.Core.Bool.{Bool, true, false}
-use Prim.Native.Nat.{ℕ, _-_, _*_, _/_, _<_, _≤_}
+use Prim.Native.Nat.{ℕ, _-_, _*_, _/_, _<_, _≤_, min}
 use lib.ListN.{length, take, replicate}
 use lib.Dec.{ltb}
 use Rattle.diagram.specs.Table.{Entry, Table, entryAt}
@@ -21,6 +21,18 @@ pub record Sized (l w h ix : List ℕ) : Type 0 where
   pub high-long : length h ≡ length l
   pub even : length ix ≡ 2 * (length ix / 2)
   pub room : length l ≤ length ix / 2
+
+-- functions are first tried in so many entries of the working columns
+abbrev pub firstEntries : ℕ
+firstEntries = 4096
+
+-- working columns of legal lengths, and an index that is long enough for their first entries
+pub record Lent (l w h ix : List ℕ) : Type 0 where
+  pub least : leastEntries ≤ length l
+  pub most : length l ≤ mostEntries
+  pub low-long : length w ≡ length l
+  pub high-long : length h ≡ length l
+  pub room : 2 * min (length l) firstEntries ≤ length ix
 
 -- the first `used` rows are in the index
 pub record Ready (l w h ix : List ℕ) (used : ℕ) : Type 0 where

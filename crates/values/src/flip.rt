@@ -1,4 +1,4 @@
-// A value flipped where its next change is T: the recursion of `functions::apply`, which stops where no next change is as early, and with a cache,
+// A value flipped where its next change is T: the recursion of `operations::apply`, which stops where no next change is as early, and with a cache,
 // so that parts that are shared are flipped once.
 use cache::WORDS;
 use cache::look;

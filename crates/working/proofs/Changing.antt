@@ -19,7 +19,8 @@ use Rattle.diagram.proofs.Shannon.{store-halves, Roots, none, root, numbers, pa
 use Rattle.functions.specs.Open.{Legible, Operand, PartsOf}
 use Rattle.functions.proofs.Carry.{legible-sound, legible-long, letter-at, branch-letter, past-letter, parts-table, part-operands}
 use Rattle.functions.proofs.Halving.{Halves}
-use Rattle.working.specs.Grown.{Means, bit}
+use Rattle.functions.specs.Known.{Means}
+use Rattle.working.specs.Grown.{bit}
 use Rattle.working.specs.Known.{differing}
 use Rattle.working.proofs.Grow.{means-same, is-zero, is-one}
 

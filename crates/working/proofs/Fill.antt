@@ -18,7 +18,8 @@ use Rattle.diagram.proofs.Number.{numberAt-extends, number-zeroth}
 use Rattle.table.specs.declared.Put.{Put}
 use Rattle.table.specs.Stop.{stopped}
 use Rattle.functions.specs.Open.{Open}
-use Rattle.working.specs.Grown.{Means, Grown}
+use Rattle.functions.specs.Known.{Means}
+use Rattle.working.specs.Grown.{Grown}
 use Rattle.working.specs.Many.{AllUsed, Filled, cell, Matrixed}
 use Rattle.working.proofs.Grow.{means-extends, means-same, open-few, open-sound, open-long, open-three}
 

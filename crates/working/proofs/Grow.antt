@@ -25,7 +25,8 @@ use Rattle.table.proofs.Outcomes.{holds-table, outcome-over}
 use Rattle.functions.specs.Open.{Legible, Open, Operand}
 use Rattle.functions.proofs.Carry.{legible-sound, legible-long, letter-at, low-at, high-at, open-next}
 use Rattle.functions.proofs.Halving.{Halves}
-use Rattle.working.specs.Grown.{Means, Is, Grown}
+use Rattle.functions.specs.Known.{Means}
+use Rattle.working.specs.Grown.{Is, Grown}
 use Rattle.working.proofs.Crowd.{crowded-first, crowded-from}
 
 -- an entry of a sound table means its function in every extension

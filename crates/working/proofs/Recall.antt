@@ -21,7 +21,8 @@ use Rattle.table.specs.Stop.{stopped}
 use Rattle.table.specs.Holds.{Outcome}
 use Rattle.table.proofs.Outcomes.{put, holds-table, outcome-there}
 use Rattle.functions.specs.Open.{Open}
-use Rattle.working.specs.Grown.{Means, Grown}
+use Rattle.functions.specs.Known.{Means}
+use Rattle.working.specs.Grown.{Grown}
 use Rattle.working.specs.Known.{Known}
 use Rattle.working.proofs.Grow.{means-extends, open-few, open-sound, outcome-grown}
 

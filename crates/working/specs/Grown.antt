@@ -2,20 +2,15 @@
 use mathlib.Core.Path.{_≡_}
 use mathlib.Core.List.{List}
 use mathlib.Core.Bool.{Bool, true, false, cond}
-use Prim.Native.Nat.{ℕ, _<_}
+use Prim.Native.Nat.{ℕ}
 use lib.ListN.{length}
-use Rattle.diagram.specs.Pattern.{patterns}
-use Rattle.diagram.specs.Table.{Table, numberAt}
+use Rattle.diagram.specs.Table.{Table}
 use Rattle.diagram.specs.Held.{held}
 use Rattle.diagram.proofs.Add.{Extends}
 use Rattle.table.specs.declared.Put.{Put}
 use Rattle.table.specs.Stop.{stopped}
 use Rattle.functions.specs.Open.{Open}
-
--- entry e has the numbers of a function
-pub record Means (letters : ℕ) (t : Table) (e : ℕ) (f : ℕ → ℕ) : Type 0 where
-  pub within : e < length t
-  pub number : (p : ℕ) → p < patterns letters → numberAt letters t e p ≡ f p
+use Rattle.functions.specs.Known.{Means}
 
 abbrev pub bit : Bool → ℕ
 bit b = cond b 1 0

@@ -6,7 +6,8 @@ use lib.ListN.{length}
 use lib.Dec.{eqb}
 use Rattle.diagram.specs.Table.{Table, numberAt}
 use Rattle.cache.specs.Cache.{Cache}
-use Rattle.working.specs.Grown.{Means, bit}
+use Rattle.functions.specs.Known.{Means}
+use Rattle.working.specs.Grown.{bit}
 
 -- each result is an entry with the numbers of a function of its operands
 pub record Known (letters : ℕ) (t : Table) (F : ℕ → ℕ → ℕ → ℕ → ℕ) (cache : List ℕ) : Type 0 where

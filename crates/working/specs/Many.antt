@@ -8,7 +8,7 @@ use Rattle.diagram.specs.Table.{Table}
 use Rattle.diagram.specs.Held.{held}
 use Rattle.diagram.proofs.Add.{Extends}
 use Rattle.functions.specs.Open.{Open}
-use Rattle.working.specs.Grown.{Means}
+use Rattle.functions.specs.Known.{Means}
 
 -- the first entries of a list are all used ones
 abbrev pub AllUsed : ℕ → List ℕ → ℕ → Type 0

@@ -2,52 +2,21 @@
 // Promise: exactly the function's missing entries are added, and what the cache knows is right in the table that is left.
 ghost use mathlib.Core.Path.{_≡_};
 ghost use mathlib.Core.Bool.{false};
-ghost use Prim.Native.Nat.{_<_, _≤_};
-ghost use lib.ListN.{length};
 ghost use Rattle.diagram.specs.Table.{numberAt};
-ghost use Rattle.diagram.specs.Store.{stored, join as joinOf, store};
+ghost use Rattle.diagram.specs.Store.{store};
 ghost use Rattle.diagram.specs.Held.{held};
-ghost use Rattle.cache.specs.Cache.{Kept};
 ghost use Rattle.table.specs.Stop.{stopped};
-ghost use Rattle.table.specs.Holds.{Holds, Outcome};
+ghost use Rattle.table.specs.Holds.{Outcome};
 ghost use Rattle.functions.specs.Open.{Legible, Open, Operand};
 ghost use Rattle.working.specs.Known.{Known, brought, differing};
-use cache::keep;
 use cache::look;
 use functions::numbers::TERMINAL;
 use functions::step::first_letter;
-use functions::step::join;
+use functions::step::join_kept;
 use functions::step::parts;
 use table::Put;
 use table::Stop;
 use table::stopped;
-
-// The entry whose parts at letter `m` are `a` and `b`, kept as the result of the operands `x` and `y`.
-fn join_kept(
-    letter: &mut [u32],
-    low: &mut [u32],
-    high: &mut [u32],
-    index: &mut [u32],
-    used: u32,
-    m: u32,
-    a: u32,
-    b: u32,
-    cache: &mut [u32],
-    x: u32,
-    y: u32,
-) -> Put
-    requires { ⌜ Holds (now letter) (now low) (now high) (now index) (held (now letter) (now low) (now high) used) used × (b < used) × (4 ≤ length (now cache)) ⌝ }
-    ensures { λ r. ⌜ Outcome (held (now (letter .entry)) (now (low .entry)) (now (high .entry)) used) (joinOf m (stored (held (now (letter .entry)) (now (low .entry)) (now (high .entry)) used) a) (stored (held (now (letter .entry)) (now (low .entry)) (now (high .entry)) used) b)) (now (letter .exit)) (now (low .exit)) (now (high .exit)) (now (index .exit)) r ⌝ }
-    ensures { λ r. ⌜ (stopped (r .stop) ≡ false → Kept (now (cache .entry)) x y 0 (r .entry) (now (cache .exit))) ⌝ }
-{
-    let r = join(letter, low, high, index, used, m, a, b);
-    let why = r.stop;
-    if stopped(why) {
-        return r;
-    }
-    keep(cache, x, y, 0, r.entry);
-    r
-}
 
 // The function of entry `e` of the lent table, whose letters are among the last `left` of the k; the cache knows entries that were brought before.
 // The first three entries are the same terminals in both tables.
@@ -143,6 +112,7 @@ pub fn bring_part(
         q.entry,
         cache,
         e,
+        0,
         0,
     )
 }
@@ -248,5 +218,6 @@ pub fn differ_part(
         cache,
         a,
         b,
+        0,
     )
 }

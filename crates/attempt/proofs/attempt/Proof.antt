@@ -1,17 +1,13 @@
 -- `attempt`: the first entries of working are lent.
 use mathlib.Core.Path.{sym}
-use Prim.Native.Nat.{_*_}
 use lib.Seq.{length-take-le}
 use borrow.Author.Needs.{needs}
-use Rattle.attempt.proofs.First.{letter-fits, low-fits, high-fits, index-fits, first-sized}
+use Rattle.attempt.proofs.First.{letter-fits, low-fits, high-fits, first-roomy}
 use Rattle.attempt.proofs.attempt.Statement.{statement}
 use Rattle.attempt.proofs.attempt.Tie as tie
 
 smaller-requires : tie.Need-smaller-requires
 smaller-requires c κs = search needs
-
-mul-places : tie.Need-mul-places
-mul-places c = search needs
 
 slice-relend-prefix-attempt-in : tie.Need-slice-relend-prefix-attempt-in
 slice-relend-prefix-attempt-in c = search needs
@@ -31,14 +27,8 @@ slice-relend-prefix-attempt-in-3 c = search needs
 slice-aggregate-attempt-in-3 : tie.Need-slice-aggregate-attempt-in-3
 slice-aggregate-attempt-in-3 c = sym (length-take-le (c .before .before .before .before .before .before .before .smaller .result) (c .before .before .before .before .before .before .before .before .before .before .before .before .before .before .before .before .before .args .whigh .now) (high-fits (c .before .before .before .before .before .before .before .smaller .ensures) (c .before .before .before .before .before .before .before .before .before .before .before .before .before .before .before .before .before .pre .3)))
 
-slice-relend-prefix-attempt-in-4 : tie.Need-slice-relend-prefix-attempt-in-4
-slice-relend-prefix-attempt-in-4 c = search needs
-
-slice-aggregate-attempt-in-4 : tie.Need-slice-aggregate-attempt-in-4
-slice-aggregate-attempt-in-4 c = sym (length-take-le (2 * c .before .before .before .before .before .before .before .before .smaller .result) (c .before .before .before .before .before .before .before .before .before .before .before .before .before .before .before .before .before .before .args .windex .now) (index-fits (c .before .before .before .before .before .before .before .before .smaller .ensures) (c .before .before .before .before .before .before .before .before .before .before .before .before .before .before .before .before .before .before .pre .3)))
-
 attempt-in-requires : tie.Need-attempt-in-requires
-attempt-in-requires c κs = let z = c .before .before .before .before .before .before .before .before .before .before .before .before .before .before .before .before .before .before in (z .pre .0, z .pre .1, z .pre .2, first-sized (c .before .before .before .before .before .before .before .before .smaller .ensures) (z .pre .3))
+attempt-in-requires c κs = let z = c .before .before .before .before .before .before .before .before .before .before .before .before .before .before .before .before .before .before in (z .pre .0, z .pre .1, z .pre .2, first-roomy (c .before .before .before .before .before .before .before .before .smaller .ensures) (z .pre .3))
 
 same-length : tie.Need-same-length
 same-length c = search needs
@@ -72,15 +62,12 @@ attempt-spec =
     tie.close
     (tie.spec
     smaller-requires
-    mul-places
     slice-relend-prefix-attempt-in
     slice-aggregate-attempt-in
     slice-relend-prefix-attempt-in-2
     slice-aggregate-attempt-in-2
     slice-relend-prefix-attempt-in-3
     slice-aggregate-attempt-in-3
-    slice-relend-prefix-attempt-in-4
-    slice-aggregate-attempt-in-4
     attempt-in-requires
     same-length
     same-length-2

@@ -3,7 +3,11 @@ use native.Mathlib.Omega.{arith}
 use borrow.Author.Needs.{needs}
 use mathlib.Core.Path.{refl, sym, _∙_}
 use mathlib.Core.Bool.{true≢false}
-use Rattle.attempt.proofs.Trying.{node-small, group-small, before-used, after-used, pending-used, before-bits, after-bits, tried-rooted, tried-outcome}
+use Prim.Native.Nat.{_*_}
+use lib.ListN.{length}
+use lib.Seq.{length-take-le}
+use Rattle.attempt.proofs.First.{room-sized}
+use Rattle.attempt.proofs.Trying.{node-small, group-small, before-used, after-used, pending-used, after-bits, tried-rooted, tried-outcome}
 use Rattle.attempt.proofs.attempt_in.Statement.{statement}
 use Rattle.attempt.proofs.attempt_in.Tie as tie
 
@@ -22,6 +26,15 @@ shared-slice-read-group c = search needs
 cast-group : tie.Need-cast-group
 cast-group c = omega (arith, group-small (c .before .before .before .before .before .before .before .before .before .before .before .pre .0))
 
+mul-places : tie.Need-mul-places
+mul-places c = omega (arith, c .before .before .before .before .before .before .before .before .before .before .before .pre .3 .most)
+
+slice-relend-prefix-prepare : tie.Need-slice-relend-prefix-prepare
+slice-relend-prefix-prepare c = omega (arith, c .before .before .before .before .before .before .before .before .before .before .before .before .before .before .before .before .before .pre .3 .room)
+
+slice-aggregate-prepare : tie.Need-slice-aggregate-prepare
+slice-aggregate-prepare c = sym (length-take-le (2 * length (c .before .before .before .before .before .before .before .before .before .before .before .before .before .before .before .before .before .before .args .wletter .now)) (c .before .before .before .before .before .before .before .before .before .before .before .before .before .before .before .before .before .before .args .windex .now) (c .before .before .before .before .before .before .before .before .before .before .before .before .before .before .before .before .before .before .pre .3 .room))
+
 part-requires : tie.Need-part-requires
 part-requires c κs = search needs
 
@@ -32,7 +45,7 @@ element-copy-out-prepare : tie.Need-element-copy-out-prepare
 element-copy-out-prepare c = search needs
 
 prepare-requires : tie.Need-prepare-requires
-prepare-requires c κs = ((c .before .before .before .before .before .before .before .before .before .before .before .before .before .before .before .before .before .before .before .before .before .pre .0 .cell, c .before .before .before .before .before .before .before .before .before .before .before .before .before .before .before .before .before .before .before .before .before .pre .1 .legible, c .before .before .before .before .before .before .before .before .before .before .before .before .before .before .before .before .before .before .before .before .before .pre .3), (before-used (c .before .before .before .before .before .before .before .before .before .before .before .before .before .before .before .before .before .before .before .before .before .pre .0) (c .before .before .before .before .before .before .before .before .before .before .before .before .before .before .before .before .before .before .before .before .before .pre .1) (c .before .before .before .before .before .before .before .before .before .before .before .before .before .before .before .before .before .before .before .before .before .pre .2) (c .before .before .part .ensures) (c .before .part2 .ensures), after-used (c .before .before .before .before .before .before .before .before .before .before .before .before .before .before .before .before .before .before .before .before .before .pre .0) (c .before .before .before .before .before .before .before .before .before .before .before .before .before .before .before .before .before .before .before .before .before .pre .1) (c .before .before .before .before .before .before .before .before .before .before .before .before .before .before .before .before .before .before .before .before .before .pre .2) (c .before .before .part .ensures) (c .before .part2 .ensures), pending-used (c .before .before .before .before .before .before .before .before .before .before .before .before .before .before .before .before .before .before .before .before .before .pre .0) (c .before .before .before .before .before .before .before .before .before .before .before .before .before .before .before .before .before .before .before .before .before .pre .1) (c .before .before .before .before .before .before .before .before .before .before .before .before .before .before .before .before .before .before .before .before .before .pre .2) (c .before .before .part .ensures) (c .before .part2 .ensures), before-bits (c .before .before .before .before .before .before .before .before .before .before .before .before .before .before .before .before .before .before .before .before .before .pre .0) (c .before .before .before .before .before .before .before .before .before .before .before .before .before .before .before .before .before .before .before .before .before .pre .1) (c .before .before .before .before .before .before .before .before .before .before .before .before .before .before .before .before .before .before .before .before .before .pre .2) (c .before .before .part .ensures) (c .before .part2 .ensures), after-bits (c .before .before .before .before .before .before .before .before .before .before .before .before .before .before .before .before .before .before .before .before .before .pre .0) (c .before .before .before .before .before .before .before .before .before .before .before .before .before .before .before .before .before .before .before .before .before .pre .1) (c .before .before .before .before .before .before .before .before .before .before .before .before .before .before .before .before .before .before .before .before .before .pre .2) (c .before .before .part .ensures) (c .before .part2 .ensures)))
+prepare-requires c κs = ((c .before .before .before .before .before .before .before .before .before .before .before .before .before .before .before .before .before .before .before .before .before .pre .0 .cell, c .before .before .before .before .before .before .before .before .before .before .before .before .before .before .before .before .before .before .before .before .before .pre .1 .legible, room-sized (c .before .before .before .before .before .before .before .before .before .before .before .before .before .before .before .before .before .before .before .before .before .pre .3)), (before-used (c .before .before .before .before .before .before .before .before .before .before .before .before .before .before .before .before .before .before .before .before .before .pre .0) (c .before .before .before .before .before .before .before .before .before .before .before .before .before .before .before .before .before .before .before .before .before .pre .1) (c .before .before .before .before .before .before .before .before .before .before .before .before .before .before .before .before .before .before .before .before .before .pre .2) (c .before .before .part .ensures) (c .before .part2 .ensures), after-used (c .before .before .before .before .before .before .before .before .before .before .before .before .before .before .before .before .before .before .before .before .before .pre .0) (c .before .before .before .before .before .before .before .before .before .before .before .before .before .before .before .before .before .before .before .before .before .pre .1) (c .before .before .before .before .before .before .before .before .before .before .before .before .before .before .before .before .before .before .before .before .before .pre .2) (c .before .before .part .ensures) (c .before .part2 .ensures), pending-used (c .before .before .before .before .before .before .before .before .before .before .before .before .before .before .before .before .before .before .before .before .before .pre .0) (c .before .before .before .before .before .before .before .before .before .before .before .before .before .before .before .before .before .before .before .before .before .pre .1) (c .before .before .before .before .before .before .before .before .before .before .before .before .before .before .before .before .before .before .before .before .before .pre .2) (c .before .before .part .ensures) (c .before .part2 .ensures), after-bits (c .before .before .before .before .before .before .before .before .before .before .before .before .before .before .before .before .before .before .before .before .before .pre .0) (c .before .before .before .before .before .before .before .before .before .before .before .before .before .before .before .before .before .before .before .before .before .pre .1) (c .before .before .before .before .before .before .before .before .before .before .before .before .before .before .before .before .before .before .before .before .before .pre .2) (c .before .before .part .ensures) (c .before .part2 .ensures)))
 
 stopped-requires : tie.Need-stopped-requires
 stopped-requires c κs = search needs
@@ -103,6 +116,9 @@ attempt-in-spec =
     mul-group
     shared-slice-read-group
     cast-group
+    mul-places
+    slice-relend-prefix-prepare
+    slice-aggregate-prepare
     part-requires
     part-requires-2
     element-copy-out-prepare

@@ -3,7 +3,7 @@ use borrow.Author.Tests.{not-true}
 use mathlib.Core.Path.{sym, _∙_}
 use mathlib.Core.Bool.{not}
 use Rattle.lists.proofs.Cases.{and-left, and-right}
-use Rattle.changes.proofs.Stirring.{rest-stored}
+use Rattle.marked.proofs.Stirring.{rest-stored}
 use borrow.Author.Needs.{needs}
 use Rattle.changes.proofs.changes.Statement.{statement}
 use Rattle.changes.proofs.changes.Tie as tie

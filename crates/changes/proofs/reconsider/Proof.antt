@@ -1,8 +1,8 @@
 -- `reconsider` meets its contract: by functions, or node by node. Assumes nothing.
 use native.Mathlib.Omega.{arith}
 use Rattle.net.specs.Net.{at, netCircuit}
-use Rattle.changes.proofs.Evaluating.{sized-again}
-use Rattle.changes.proofs.Trying.{again-open, again-entries, again-stored}
+use Rattle.marked.proofs.Entries.{lent-again}
+use Rattle.marked.proofs.Trying.{again-open, again-entries, again-stored}
 use borrow.Author.Needs.{needs}
 use Rattle.changes.proofs.reconsider.Statement.{statement}
 use Rattle.changes.proofs.reconsider.Tie as tie
@@ -47,7 +47,7 @@ returns : tie.Need-returns
 returns c = c .before .before .before .before .before .before .before .before .before .before .before .before .before .before .before .before .before .before .by-functions .ensures .0 (c .before .if1 .taken)
 
 all-by-entries-requires : tie.Need-all-by-entries-requires
-all-by-entries-requires c κs = let s = c .before .before .before .before .before .before .before .before .before .before .before .before .before .before .before .before .before .before .before .before .before .before .before .before .before .before .before .before .before .before .before .before .before .before .before .before .before .before .before .before .before .before .before .before .before .before .before in let same = (c .before .before .before .before .before .before .before .before .before .before .before .before .before .before .before .before .before .before .before .before .before .before .before .before .before .by-functions .ensures .1 (c .before .before .before .before .before .before .before .before .if1 .left)) in let e = again-entries same (record { first = s .pre .1 .0; second = s .pre .1 .1; third = s .pre .1 .2 }) in ((s .pre .0 .0, again-open same (s .pre .0 .1), sized-again (record { letter-long = c .before .before .before .before .before .before .before .before .before .before .before .before .before .before .before .before .before .before .before .before .before .before .before .before .before .by-functions .kept .1 .1 .1 .1 .1 .1 .0; low-long = c .before .before .before .before .before .before .before .before .before .before .before .before .before .before .before .before .before .before .before .before .before .before .before .before .before .by-functions .kept .1 .1 .1 .1 .1 .1 .1 .0; high-long = c .before .before .before .before .before .before .before .before .before .before .before .before .before .before .before .before .before .before .before .before .before .before .before .before .before .by-functions .kept .1 .1 .1 .1 .1 .1 .1 .1 .0; index-long = c .before .before .before .before .before .before .before .before .before .before .before .before .before .before .before .before .before .before .before .before .before .before .before .before .before .by-functions .kept .1 .1 .1 .1 .1 .1 .1 .1 .1 .0 }) (s .pre .0 .2)), (e .first, e .second, e .third))
+all-by-entries-requires c κs = let s = c .before .before .before .before .before .before .before .before .before .before .before .before .before .before .before .before .before .before .before .before .before .before .before .before .before .before .before .before .before .before .before .before .before .before .before .before .before .before .before .before .before .before .before .before .before .before .before in let same = (c .before .before .before .before .before .before .before .before .before .before .before .before .before .before .before .before .before .before .before .before .before .before .before .before .before .by-functions .ensures .1 (c .before .before .before .before .before .before .before .before .if1 .left)) in let e = again-entries same (record { first = s .pre .1 .0; second = s .pre .1 .1; third = s .pre .1 .2 }) in ((s .pre .0 .0, again-open same (s .pre .0 .1), lent-again (record { letter-long = c .before .before .before .before .before .before .before .before .before .before .before .before .before .before .before .before .before .before .before .before .before .before .before .before .before .by-functions .kept .1 .1 .1 .1 .1 .1 .0; low-long = c .before .before .before .before .before .before .before .before .before .before .before .before .before .before .before .before .before .before .before .before .before .before .before .before .before .by-functions .kept .1 .1 .1 .1 .1 .1 .1 .0; high-long = c .before .before .before .before .before .before .before .before .before .before .before .before .before .before .before .before .before .before .before .before .before .before .before .before .before .by-functions .kept .1 .1 .1 .1 .1 .1 .1 .1 .0; index-long = c .before .before .before .before .before .before .before .before .before .before .before .before .before .before .before .before .before .before .before .before .before .before .before .before .before .by-functions .kept .1 .1 .1 .1 .1 .1 .1 .1 .1 .0 }) (s .pre .0 .2)), (e .first, e .second, e .third))
 
 same-length-9 : tie.Need-same-length-9
 same-length-9 c = omega (arith, c .before .before .before .before .before .before .before .before .before .before .before .before .before .before .before .before .all-by-entries .kept .1 .0, c .before .before .before .before .before .before .before .before .before .before .before .before .before .before .before .before .before .before .before .before .before .before .before .before .before .before .before .before .before .before .before .before .before .before .before .before .before .before .before .before .before .before .by-functions .kept .1 .0)

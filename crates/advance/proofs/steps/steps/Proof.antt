@@ -5,8 +5,8 @@ use mathlib.Core.Path.{_≡_, refl, sym, _∙_}
 use Prim.Native.Nat.{ℕ, _-_}
 use native.Mathlib.Omega.{arith}
 use lib.ListN.{length, replicate, length-replicate}
-use Rattle.table.specs.Holds.{Sized}
-use Rattle.table.proofs.Entering.{sized-again}
+use Rattle.table.specs.Holds.{Lent}
+use Rattle.table.proofs.Entering.{lent-again}
 use Rattle.net.specs.Net.{horizonPlace, at as atPlace}
 use Rattle.record.proofs.Leasts.{leasts-none}
 use Rattle.advance.proofs.Moving.{Going, open-room, tidy-standing, tidy-whole, tidy-reached, going-start, going-takes, going-rests, going-full, going-next, step-standing, step-more, step-leasts, step-later}
@@ -16,7 +16,7 @@ use Rattle.advance.proofs.steps.steps.Tie as tie
 abbrev Inv-loop : tie.InvT-loop
 Inv-loop net letter₀ low₀ high₀ index₀ wletter₀ wlow₀ whigh₀ windex₀ until now₀ least₀ time₀ letter low high index wletter wlow whigh windex now least time =
     Going net until letter₀ low₀ high₀ now₀ letter low high index now time least
-    × Sized wletter wlow whigh windex
+    × Lent wletter wlow whigh windex
     × (length letter ≡ length letter₀)
     × (length low ≡ length low₀)
     × (length high ≡ length high₀)
@@ -111,7 +111,7 @@ loop-again c =
     let s = c .before .before .before .before .before .before .before .before .before .before .before .before .before .before .before .before .before .before .before .before .before .before .before .before .before .before .before .before .before .before .before .before .before .before .before .before .before .before .before .before .before .before .before .before .before .before .before .before .before .before .before .before .before in
     let v = c .before .before .before .before .before .before .before .before .before .before .before .before .before .before .before .before .before .before .before .before .before .before .before .before .before .before .before .before .before .before .before .before .before .before .before .before .loop .inv in
     let k = c .before .before .before .before .before .before .before .before .before .before .before .before .before .before .before .before .before .before .before .before .before .before .before .before .before .step .kept in
-    (going-next (s .pre .0 .0) (v .0) (going-takes (s .pre .0 .0) (v .0) (c .before .before .before .before .before .before .before .before .before .before .before .before .before .before .before .before .before .before .before .before .before .before .before .before .before .before .before .before .before .before .before .before .before .before .before .loop-test .taken)) (k .1 .0) (c .before .before .before .before .before .before .before .before .before .before .before .before .before .before .before .before .before .before .before .before .before .before .before .before .before .step .ensures) (sym (c .before .before .before .before .before .before .before .before .stopped .ensures) ∙ c .before .before .before .before .before .before .before .if1 .left) (record { time-is = c .before .time-after2 .ensures .0; least-long = c .before .time-after2 .ensures .1 ∙ v .0 .timed .least-long; leasts = c .before .time-after2 .ensures .2 }), sized-again (v .1) (k .1 .1 .1 .1 .1 .1 .0) (k .1 .1 .1 .1 .1 .1 .1 .0) (k .1 .1 .1 .1 .1 .1 .1 .1 .0) (k .1 .1 .1 .1 .1 .1 .1 .1 .1 .0), k .1 .0 ∙ v .2, k .1 .1 .0 ∙ v .3, k .1 .1 .1 .0 ∙ v .4, k .1 .1 .1 .1 .0 ∙ v .5, k .1 .1 .1 .1 .1 .1 .0 ∙ v .6, k .1 .1 .1 .1 .1 .1 .1 .0 ∙ v .7, k .1 .1 .1 .1 .1 .1 .1 .1 .0 ∙ v .8, k .1 .1 .1 .1 .1 .1 .1 .1 .1 .0 ∙ v .9)
+    (going-next (s .pre .0 .0) (v .0) (going-takes (s .pre .0 .0) (v .0) (c .before .before .before .before .before .before .before .before .before .before .before .before .before .before .before .before .before .before .before .before .before .before .before .before .before .before .before .before .before .before .before .before .before .before .before .loop-test .taken)) (k .1 .0) (c .before .before .before .before .before .before .before .before .before .before .before .before .before .before .before .before .before .before .before .before .before .before .before .before .before .step .ensures) (sym (c .before .before .before .before .before .before .before .before .stopped .ensures) ∙ c .before .before .before .before .before .before .before .if1 .left) (record { time-is = c .before .time-after2 .ensures .0; least-long = c .before .time-after2 .ensures .1 ∙ v .0 .timed .least-long; leasts = c .before .time-after2 .ensures .2 }), lent-again (v .1) (k .1 .1 .1 .1 .1 .1 .0) (k .1 .1 .1 .1 .1 .1 .1 .0) (k .1 .1 .1 .1 .1 .1 .1 .1 .0) (k .1 .1 .1 .1 .1 .1 .1 .1 .1 .0), k .1 .0 ∙ v .2, k .1 .1 .0 ∙ v .3, k .1 .1 .1 .0 ∙ v .4, k .1 .1 .1 .1 .0 ∙ v .5, k .1 .1 .1 .1 .1 .1 .0 ∙ v .6, k .1 .1 .1 .1 .1 .1 .1 .0 ∙ v .7, k .1 .1 .1 .1 .1 .1 .1 .1 .0 ∙ v .8, k .1 .1 .1 .1 .1 .1 .1 .1 .1 .0 ∙ v .9)
 
 same-length-9 : tie.Need-same-length-9 Inv-loop μ-loop
 same-length-9 c = c .before .loop .inv .2

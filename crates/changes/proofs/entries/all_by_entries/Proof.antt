@@ -6,8 +6,9 @@ use lib.ListN.{length}
 use Rattle.net.specs.Net.{at, netCircuit}
 use Rattle.net.proofs.Laying.{nodes-length}
 use Rattle.values.proofs.Series.{Storing, storing-first, storing-open, storing-next, storing-stop, storing-done}
-use Rattle.changes.specs.Changes.{changeOf}
-use Rattle.changes.proofs.Evaluating.{SameLengths, sized-again, next-evaluable, next-same}
+use Rattle.marked.specs.Changes.{changeOf}
+use Rattle.marked.proofs.Entries.{SameLengths, lent-again}
+use Rattle.changes.proofs.Evaluating.{next-evaluable, next-same}
 use native.Mathlib.Omega.{arith}
 use Rattle.changes.proofs.entries.all_by_entries.Statement.{statement}
 use Rattle.changes.proofs.entries.all_by_entries.Tie as tie
@@ -47,7 +48,7 @@ add-by-entries : tie.Need-add-by-entries Inv-loop μ-loop
 add-by-entries c = omega (arith, c .before .before .before .before .before .before .before .before .before .before .before .before .before .before .before .before .before .before .before .before .before .pre .0 .0 .within .nodes, c .before .before .before .before .before .before .before .before .before .loop-test .taken)
 
 by-entries-requires : tie.Need-by-entries-requires Inv-loop μ-loop
-by-entries-requires c κs = let s = c .before .before .before .before .before .before .before .before .before .before .before .before .before .before .before .before .before .before .before .before .before .before in let l = c .before .before .before .before .before .before .before .before .before .before .before .loop in (s .pre .0 .0, record { least = omega arith; most = omega (arith, c .before .before .before .before .before .before .before .before .before .before .loop-test .taken) }, storing-open (l .inv .0), next-evaluable (l .inv .0) (record { first = s .pre .1 .0; second = s .pre .1 .1; third = s .pre .1 .2 }) (omega (arith, s .pre .0 .0 .within .nodes, c .before .before .before .before .before .before .before .before .before .before .loop-test .taken)) (c .before .before .before .before .before .before .before .before .before .entries-with .ensures), sized-again (l .inv .1) (s .pre .0 .2))
+by-entries-requires c κs = let s = c .before .before .before .before .before .before .before .before .before .before .before .before .before .before .before .before .before .before .before .before .before .before in let l = c .before .before .before .before .before .before .before .before .before .before .before .loop in (s .pre .0 .0, record { least = omega arith; most = omega (arith, c .before .before .before .before .before .before .before .before .before .before .loop-test .taken) }, storing-open (l .inv .0), next-evaluable (l .inv .0) (record { first = s .pre .1 .0; second = s .pre .1 .1; third = s .pre .1 .2 }) (omega (arith, s .pre .0 .0 .within .nodes, c .before .before .before .before .before .before .before .before .before .before .loop-test .taken)) (c .before .before .before .before .before .before .before .before .before .entries-with .ensures), lent-again (l .inv .1) (s .pre .0 .2))
 
 stopped-requires : tie.Need-stopped-requires Inv-loop μ-loop
 stopped-requires c κs = search needs

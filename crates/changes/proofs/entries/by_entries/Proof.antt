@@ -4,7 +4,7 @@ use borrow.Author.Tests.{not-true, not-false}
 use Rattle.rules.specs.State.{isInner}
 use Rattle.net.specs.Net.{at, netCircuit}
 use Rattle.attempt.specs.Change.{changeBy}
-use Rattle.changes.proofs.Single.{outer-put, inner-put}
+use Rattle.stir.proofs.Single.{outer-put, inner-put}
 use native.Mathlib.Omega.{arith}
 use Rattle.changes.proofs.entries.by_entries.Statement.{statement}
 use Rattle.changes.proofs.entries.by_entries.Tie as tie

@@ -1,6 +1,6 @@
 -- `entries_with` meets its contract: place after place. Assumes nothing.
 use Prim.Native.Nat.{_-_}
-use Rattle.changes.proofs.Placed.{Placed, placed-first, placed-next, placed-done}
+use Rattle.marked.proofs.Placed.{Placed, placed-first, placed-next, placed-done}
 use borrow.Author.Needs.{needs}
 use native.Mathlib.Omega.{arith}
 use Rattle.changes.proofs.entries.entries_with.Statement.{statement}

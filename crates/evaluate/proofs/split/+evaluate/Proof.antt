@@ -8,7 +8,7 @@ use borrow.Fn.PlainCycle.{Measures, is, falls, and}
 use Rattle.net.specs.Net.{netCircuit}
 use Rattle.evaluate.proofs.Entries.{evaluable-entries, evaluable-more}
 use Rattle.evaluate.proofs.Remaining.{left-evaluable, left-fewer}
-use Rattle.table.proofs.Entering.{sized-again}
+use Rattle.table.proofs.Entering.{lent-again}
 use Rattle.evaluate.proofs.Step.{again-open, again-entries, lows-evaluable, lows-full, next-open, highs-evaluable, highs-full, both-hold, root-stored}
 use Rattle.evaluate.proofs.split.evaluate.Reads as evaluate
 use Rattle.evaluate.proofs.split.evaluate.Kinds as evaluate-kinds
@@ -139,7 +139,7 @@ module _ (t : ℕ) where
       let f = c .before .before .before .before .before .before .before .before .before .before .before .before .before .before .before .before .before .before .before .before .before .before .before .before .before .before .before .before .before .before .before .before .before .before .before .before .before .before .before .before .before .before .if1 .left in
       let a = c .before .before .before .before .before .before .before .before .before .before .before .before .halves .ensures in
       let b = c .before .before .before .before .before .before .before .before .before .halves2 .ensures in
-      (omega (arith, z .pre .0, f, left-fewer (z .pre .1 .1) (z .pre .1 .2) g), (z .pre .1 .0, again-open (z .pre .1 .1) e s, lows-evaluable (z .pre .1 .1) e s f (g .most) refl a b, (sized-again (z .pre .1 .3) (c .before .before .before .before .before .before .before .before .before .before .before .before .before .before .before .before .before .before .before .before .before .before .before .before .before .before .before .before .before .before .before .before .before .tried .kept .1 .1 .1 .1 .1 .1 .0) (c .before .before .before .before .before .before .before .before .before .before .before .before .before .before .before .before .before .before .before .before .before .before .before .before .before .before .before .before .before .before .before .before .before .tried .kept .1 .1 .1 .1 .1 .1 .1 .0) (c .before .before .before .before .before .before .before .before .before .before .before .before .before .before .before .before .before .before .before .before .before .before .before .before .before .before .before .before .before .before .before .before .before .tried .kept .1 .1 .1 .1 .1 .1 .1 .1 .0) (c .before .before .before .before .before .before .before .before .before .before .before .before .before .before .before .before .before .before .before .before .before .before .before .before .before .before .before .before .before .before .before .before .before .tried .kept .1 .1 .1 .1 .1 .1 .1 .1 .1 .0)), omega (arith, g .most)))
+      (omega (arith, z .pre .0, f, left-fewer (z .pre .1 .1) (z .pre .1 .2) g), (z .pre .1 .0, again-open (z .pre .1 .1) e s, lows-evaluable (z .pre .1 .1) e s f (g .most) refl a b, (lent-again (z .pre .1 .3) (c .before .before .before .before .before .before .before .before .before .before .before .before .before .before .before .before .before .before .before .before .before .before .before .before .before .before .before .before .before .before .before .before .before .tried .kept .1 .1 .1 .1 .1 .1 .0) (c .before .before .before .before .before .before .before .before .before .before .before .before .before .before .before .before .before .before .before .before .before .before .before .before .before .before .before .before .before .before .before .before .before .tried .kept .1 .1 .1 .1 .1 .1 .1 .0) (c .before .before .before .before .before .before .before .before .before .before .before .before .before .before .before .before .before .before .before .before .before .before .before .before .before .before .before .before .before .before .before .before .before .tried .kept .1 .1 .1 .1 .1 .1 .1 .1 .0) (c .before .before .before .before .before .before .before .before .before .before .before .before .before .before .before .before .before .before .before .before .before .before .before .before .before .before .before .before .before .before .before .before .before .tried .kept .1 .1 .1 .1 .1 .1 .1 .1 .1 .0)), omega (arith, g .most)))
 
   stopped-requires : evaluate-lts.Need-stopped-requires (claims t) (evaluate-at t) evaluate.Post
   stopped-requires c κs = search needs
@@ -195,7 +195,7 @@ module _ (t : ℕ) where
       let b = y .before .before .before .before .before .before .before .before .before .halves2 .ensures in
       let o = c .before .before .before .before .before .before .before .before .before .before .before .before .before .before .before .before .before .before .before .before .before .before .before .before .before .before .before .evaluate .ensures in
       let r = (sym (c .before .before .before .before .before .before .before .before .before .before .stopped .ensures) ∙ c .before .before .before .before .before .before .before .before .before .if3 .left) in
-      (omega (arith, z .pre .0, f, left-fewer (z .pre .1 .1) (z .pre .1 .2) g), (z .pre .1 .0, next-open (z .pre .1 .1) e s f (g .most) refl a b (netCircuit (z .args .net .now)) (z .args .time) (z .args .all) (z .args .n) o r, highs-evaluable (z .pre .1 .1) e s f (g .most) refl a b (netCircuit (z .args .net .now)) (z .args .time) (z .args .all) (z .args .n) o r, (sized-again (z .pre .1 .3) (omega (arith, c .before .before .before .before .before .before .before .before .before .before .before .before .before .before .before .before .before .before .before .before .before .before .before .before .before .before .before .evaluate .kept .1 .1 .1 .1 .1 .1 .0, c .before .before .before .before .before .before .before .before .before .before .before .before .before .before .before .before .before .before .before .before .before .before .before .before .before .before .before .before .before .before .before .before .before .before .before .before .before .before .before .before .before .before .before .before .before .before .before .before .before .before .before .before .before .before .before .before .before .before .before .before .before .tried .kept .1 .1 .1 .1 .1 .1 .0)) (omega (arith, c .before .before .before .before .before .before .before .before .before .before .before .before .before .before .before .before .before .before .before .before .before .before .before .before .before .before .before .evaluate .kept .1 .1 .1 .1 .1 .1 .1 .0, c .before .before .before .before .before .before .before .before .before .before .before .before .before .before .before .before .before .before .before .before .before .before .before .before .before .before .before .before .before .before .before .before .before .before .before .before .before .before .before .before .before .before .before .before .before .before .before .before .before .before .before .before .before .before .before .before .before .before .before .before .before .tried .kept .1 .1 .1 .1 .1 .1 .1 .0)) (omega (arith, c .before .before .before .before .before .before .before .before .before .before .before .before .before .before .before .before .before .before .before .before .before .before .before .before .before .before .before .evaluate .kept .1 .1 .1 .1 .1 .1 .1 .1 .0, c .before .before .before .before .before .before .before .before .before .before .before .before .before .before .before .before .before .before .before .before .before .before .before .before .before .before .before .before .before .before .before .before .before .before .before .before .before .before .before .before .before .before .before .before .before .before .before .before .before .before .before .before .before .before .before .before .before .before .before .before .before .tried .kept .1 .1 .1 .1 .1 .1 .1 .1 .0)) (omega (arith, c .before .before .before .before .before .before .before .before .before .before .before .before .before .before .before .before .before .before .before .before .before .before .before .before .before .before .before .evaluate .kept .1 .1 .1 .1 .1 .1 .1 .1 .1 .0, c .before .before .before .before .before .before .before .before .before .before .before .before .before .before .before .before .before .before .before .before .before .before .before .before .before .before .before .before .before .before .before .before .before .before .before .before .before .before .before .before .before .before .before .before .before .before .before .before .before .before .before .before .before .before .before .before .before .before .before .before .before .tried .kept .1 .1 .1 .1 .1 .1 .1 .1 .1 .0))), omega (arith, g .most)))
+      (omega (arith, z .pre .0, f, left-fewer (z .pre .1 .1) (z .pre .1 .2) g), (z .pre .1 .0, next-open (z .pre .1 .1) e s f (g .most) refl a b (netCircuit (z .args .net .now)) (z .args .time) (z .args .all) (z .args .n) o r, highs-evaluable (z .pre .1 .1) e s f (g .most) refl a b (netCircuit (z .args .net .now)) (z .args .time) (z .args .all) (z .args .n) o r, (lent-again (z .pre .1 .3) (omega (arith, c .before .before .before .before .before .before .before .before .before .before .before .before .before .before .before .before .before .before .before .before .before .before .before .before .before .before .before .evaluate .kept .1 .1 .1 .1 .1 .1 .0, c .before .before .before .before .before .before .before .before .before .before .before .before .before .before .before .before .before .before .before .before .before .before .before .before .before .before .before .before .before .before .before .before .before .before .before .before .before .before .before .before .before .before .before .before .before .before .before .before .before .before .before .before .before .before .before .before .before .before .before .before .before .tried .kept .1 .1 .1 .1 .1 .1 .0)) (omega (arith, c .before .before .before .before .before .before .before .before .before .before .before .before .before .before .before .before .before .before .before .before .before .before .before .before .before .before .before .evaluate .kept .1 .1 .1 .1 .1 .1 .1 .0, c .before .before .before .before .before .before .before .before .before .before .before .before .before .before .before .before .before .before .before .before .before .before .before .before .before .before .before .before .before .before .before .before .before .before .before .before .before .before .before .before .before .before .before .before .before .before .before .before .before .before .before .before .before .before .before .before .before .before .before .before .before .tried .kept .1 .1 .1 .1 .1 .1 .1 .0)) (omega (arith, c .before .before .before .before .before .before .before .before .before .before .before .before .before .before .before .before .before .before .before .before .before .before .before .before .before .before .before .evaluate .kept .1 .1 .1 .1 .1 .1 .1 .1 .0, c .before .before .before .before .before .before .before .before .before .before .before .before .before .before .before .before .before .before .before .before .before .before .before .before .before .before .before .before .before .before .before .before .before .before .before .before .before .before .before .before .before .before .before .before .before .before .before .before .before .before .before .before .before .before .before .before .before .before .before .before .before .tried .kept .1 .1 .1 .1 .1 .1 .1 .1 .0)) (omega (arith, c .before .before .before .before .before .before .before .before .before .before .before .before .before .before .before .before .before .before .before .before .before .before .before .before .before .before .before .evaluate .kept .1 .1 .1 .1 .1 .1 .1 .1 .1 .0, c .before .before .before .before .before .before .before .before .before .before .before .before .before .before .before .before .before .before .before .before .before .before .before .before .before .before .before .before .before .before .before .before .before .before .before .before .before .before .before .before .before .before .before .before .before .before .before .before .before .before .before .before .before .before .before .before .before .before .before .before .before .tried .kept .1 .1 .1 .1 .1 .1 .1 .1 .1 .0))), omega (arith, g .most)))
 
   stopped-requires-2 : evaluate-lts.Need-stopped-requires-2 (claims t) (evaluate-at t) evaluate.Post
   stopped-requires-2 c κs = search needs

@@ -1,3 +1,4 @@
+-- `by_terminal` meets its contract: each arm by its test. Assumes nothing.
 use borrow.Author.Tests.{eq-eqb, ne-eqb}
 use borrow.Author.Needs.{needs}
 use Rattle.functions.proofs.choose.by_terminal.Statement.{statement}

@@ -1,3 +1,4 @@
+-- `join` meets its contract: equal parts are there, different ones make a branch. Assumes nothing.
 use Rattle.functions.proofs.Carry.{join-there, join-add}
 use borrow.Author.Needs.{needs}
 use Rattle.functions.proofs.step.join.Statement.{statement}

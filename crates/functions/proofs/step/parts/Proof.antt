@@ -1,3 +1,4 @@
+-- `parts` meets its contract: a row that branches on the letter, or one that does not. Assumes nothing.
 use Rattle.functions.proofs.Carry.{parts-own, parts-same}
 use borrow.Author.Needs.{needs}
 use Rattle.functions.proofs.step.parts.Statement.{statement}

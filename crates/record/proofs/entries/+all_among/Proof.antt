@@ -2,7 +2,7 @@
 use borrow.Author.Needs.{needs}
 use mathlib.Core.Path.{_∙_}
 use native.Mathlib.Omega.{arith}
-use Rattle.functions.proofs.Reading.{low-earlier, high-earlier}
+use Rattle.functions.proofs.Branches.{low-earlier, high-earlier}
 use Rattle.record.proofs.Entry.{among-leaf, among-high, among-low}
 use Prim.Native.Nat.{ℕ, _<_}
 use borrow.Fn.Kinds.{In}

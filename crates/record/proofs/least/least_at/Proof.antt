@@ -2,7 +2,7 @@
 use borrow.Author.Needs.{needs}
 use mathlib.Core.Path.{_∙_}
 use native.Mathlib.Omega.{arith}
-use Rattle.functions.proofs.Reading.{low-earlier, high-earlier}
+use Rattle.functions.proofs.Branches.{low-earlier, high-earlier}
 use Rattle.record.proofs.Entry.{least-leaf}
 use Rattle.record.proofs.Leasts.{leasts-branch}
 use Rattle.record.proofs.least.least_at.Statement.{statement}

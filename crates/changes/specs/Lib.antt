@@ -1,4 +1,0 @@
-pub mod Changes
-pub mod ByRoots
-pub mod Rest
-pub mod Mixed

@@ -1,0 +1,9 @@
+pub mod Entries
+pub mod Placed
+pub mod Rooting
+pub mod Preparing
+pub mod Trying
+pub mod Stirring
+pub mod Group
+pub mod Masking
+pub mod Mixing

@@ -1,0 +1,3 @@
+pub mod Extending
+pub mod Fixing
+pub mod Reading

@@ -1,0 +1,5 @@
+pub mod Single
+pub mod Resting
+pub mod Leasting
+pub mod Marking
+pub mod Needing
