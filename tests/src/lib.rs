@@ -15,6 +15,7 @@ pub mod program;
 pub mod random;
 pub mod refusal;
 pub mod replay;
+pub mod rows;
 pub mod saved;
 #[cfg(feature = "editor")]
 pub mod side_by_side;

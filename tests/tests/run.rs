@@ -12,6 +12,7 @@ use comparison::program::{bytes, files};
 use comparison::random::Random;
 use comparison::refusal::Refusal;
 use comparison::replay::{hex, Cases};
+use comparison::rows;
 use comparison::side_by_side;
 use comparison::simulator::calls::{Call, Lent, ANSWER, RECORD, TIME, USED, VALUES, WORKING};
 use comparison::simulator::circuit::Circuit;
@@ -590,16 +591,20 @@ fn size(table: &Columns, entry: u32) -> usize {
 /// working tables of both lengths.
 #[test]
 fn more_entries_than_slots() {
-    const SLOTS: usize = 128;
+    // Those of an operation on functions, and those for a node's next change.
+    const CACHE: usize = 128;
+    const MEMO: usize = 352;
     let mut random = Random::new(34);
     let mut seen = Seen::default();
-    for (name, cell) in [
-        ("carry chain", designs::carry_chain(12, 0)),
+    for (name, cell, slots) in [
+        ("carry chain", designs::carry_chain(12, 0), CACHE),
         (
             "carry chain, one after the other",
             designs::carry_chain(12, 30),
+            CACHE,
         ),
-        ("barrel column", designs::barrel_column(12, 0)),
+        ("barrel column", designs::barrel_column(12, 0), CACHE),
+        ("mux-tree", rows::mux_tree(), MEMO),
     ] {
         let trial = Trial::of(&Circuit::new(&cell), Table::fresh(cell.letters), 60 << 12);
         let layout = Layout::in_order(&cell);
@@ -621,7 +626,7 @@ fn more_entries_than_slots() {
                 let sizes = entries.map(|&entry| size(&given.lent.table, entry));
                 largest = largest.max(sizes.max().unwrap_or_default());
             }
-            assert!(largest > SLOTS, "{case}: {largest} entries at most");
+            assert!(largest > slots, "{case}: {largest} entries at most");
         }
     }
     seen.print("more entries than slots");
