@@ -14,9 +14,10 @@
  * outside all its promises.
  *
  * Stack. A caller has at least 2 MiB of stack free. The calls keep an index of
- * each table there, half a MiB long: one in a call on a function table and in a
- * question about a run, two in a call that starts or advances a run, and beside
- * them a column of a quarter of a MiB in a call that advances one.
+ * the table there, half a MiB long. A call that starts or advances a run keeps a
+ * short one for the working table too, an eighth of a MiB, and a long one, half a
+ * MiB, while a step needs more than the first 4,096 entries of it; one that
+ * advances a run has a column of a quarter of a MiB beside them.
  *
  * Answers. Every call returns 0 if it was answered and else the number of a
  * refusal. A call may have several reasons to refuse; which of them it gives is
