@@ -15,14 +15,11 @@ use Rattle.table.specs.Holds.{Holds, Outcome}
 use Rattle.functions.specs.Open.{Open}
 use Rattle.functions.proofs.Halving.{Halves, low-full, low-open, high-full, high-holds, root-done}
 use Rattle.descent.specs.Descend.{Entries, HalfOf}
+use Rattle.attempt.specs.Attempted.{Same}
 use Rattle.attempt.specs.Change.{changeBy}
 use Rattle.attempt.specs.Entries.{Evaluable}
 use Rattle.evaluate.proofs.Entries.{evaluable-entries}
 use Rattle.evaluate.proofs.Halved.{low-evaluable, halves-stored, next-evaluable}
-
--- columns with the same numbers
-abbrev pub Same : (l w h ix l1 w1 h1 ix1 : List ℕ) → Type 0
-Same l w h ix l1 w1 h1 ix1 = (l1 ≡ l) × (w1 ≡ w) × (h1 ≡ h) × (ix1 ≡ ix)
 
 module _ {k : ℕ} {l w h ix : List ℕ} {used left : ℕ} {es : List ℕ} (o : Open k l w h ix used) (e : Evaluable k (held l w h used) used left es)
     {l1 w1 h1 ix1 : List ℕ} (same : Same l w h ix l1 w1 h1 ix1) where

@@ -9,8 +9,6 @@ use net::roots::ROOTS;
 use table::Put;
 use table::Stop;
 use table::stopped;
-ghost use mathlib.Core.Path.{_≡_};
-ghost use mathlib.Core.Bool.{true, false};
 ghost use Prim.Native.Nat.{_≤_};
 ghost use Rattle.diagram.specs.Store.{store};
 ghost use Rattle.diagram.specs.Held.{held};
@@ -19,6 +17,7 @@ ghost use Rattle.table.specs.Holds.{Lent, Outcome};
 ghost use Rattle.functions.specs.Open.{Open};
 ghost use Rattle.plain.specs.Ready.{Net};
 ghost use Rattle.descent.specs.Descend.{Inner, Entries};
+ghost use Rattle.attempt.specs.Attempted.{Attempted};
 ghost use Rattle.attempt.specs.Change.{changeBy};
 ghost use Rattle.attempt.specs.Entries.{Evaluable};
 ghost use Rattle.evaluate.specs.Left.{Left};
@@ -58,7 +57,7 @@ fn tried(
     left: u32,
 ) -> Tried
     requires { ⌜ Inner (now net) n × Open (atPlace (now net) lettersPlace) (now letter) (now low) (now high) (now index) used × Evaluable (atPlace (now net) lettersPlace) (held (now letter) (now low) (now high) used) used (atPlace (now net) lettersPlace) (now entries) × Lent (now wletter) (now wlow) (now whigh) (now windex) ⌝ }
-    ensures { λ r. ⌜ (r .done ≡ true → Outcome (held (now (letter .entry)) (now (low .entry)) (now (high .entry)) used) (store (atPlace (now (net .entry)) lettersPlace) 0 (changeBy (netCircuit (now (net .entry))) time all n (atPlace (now (net .entry)) lettersPlace) (held (now (letter .entry)) (now (low .entry)) (now (high .entry)) used) (now (entries .entry))) (held (now (letter .entry)) (now (low .entry)) (now (high .entry)) used)) (now (letter .exit)) (now (low .exit)) (now (high .exit)) (now (index .exit)) (r .put)) × (r .done ≡ false → (now (letter .exit) ≡ now (letter .entry)) × (now (low .exit) ≡ now (low .entry)) × (now (high .exit) ≡ now (high .entry)) × (now (index .exit) ≡ now (index .entry))) ⌝ }
+    ensures { λ r. ⌜ Attempted (now (net .entry)) time all n (now (entries .entry)) used (now (letter .entry)) (now (low .entry)) (now (high .entry)) (now (index .entry)) (now (letter .exit)) (now (low .exit)) (now (high .exit)) (now (index .exit)) r ⌝ }
 {
     if left < FEW {
         return Tried {

@@ -11,12 +11,9 @@ use Rattle.rules.specs.Run.{storeAll}
 use Rattle.functions.specs.Open.{Open}
 use Rattle.values.specs.All.{OutcomeAll}
 use Rattle.stir.specs.Pending.{PendingLeasts}
+use Rattle.attempt.specs.Attempted.{Same}
 use Rattle.marked.specs.Changes.{changeOf}
 use Rattle.marked.proofs.Entries.{StepEntries}
-
--- columns with the same numbers
-abbrev pub Same : (l w h ix l1 w1 h1 ix1 : List ℕ) → Type 0
-Same l w h ix l1 w1 h1 ix1 = (l1 ≡ l) × (w1 ≡ w) × (h1 ≡ h) × (ix1 ≡ ix)
 
 module _ {k used : ℕ} {l w h ix l1 w1 h1 ix1 : List ℕ} (same : Same l w h ix l1 w1 h1 ix1) where
   pub again-open : Open k l w h ix used → Open k l1 w1 h1 ix1 used

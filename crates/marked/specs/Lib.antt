@@ -1,3 +1,4 @@
 pub mod Changes
 pub mod ByRoots
 pub mod Mixed
+pub mod Tries

@@ -9,20 +9,17 @@ use table::Stop;
 use table::stopped;
 use values::Many;
 ghost use mathlib.Core.Path.{_≡_};
-ghost use mathlib.Core.Bool.{true, false};
-ghost use mathlib.Core.List.{map};
+ghost use mathlib.Core.Bool.{true};
 ghost use Rattle.diagram.specs.Call.{columns, lengthsLegal};
 ghost use Rattle.table.specs.Holds.{Lent};
 ghost use Rattle.attempt.specs.Room.{Roomy};
 ghost use Rattle.functions.specs.Open.{Open};
-ghost use Rattle.rules.specs.State.{nodeNumbers};
-ghost use Rattle.rules.specs.Run.{storeAll};
 ghost use Rattle.net.specs.Net.{lettersPlace, at as atPlace, netCircuit};
 ghost use Rattle.net.specs.Laid.{Laid};
-ghost use Rattle.values.specs.All.{OutcomeAll};
 ghost use Rattle.stir.specs.Pending.{PendingEntries, PendingLeasts};
 ghost use Rattle.stir.specs.Marks.{NodeMarks};
-ghost use Rattle.marked.specs.Changes.{changeOf, ValueEntries};
+ghost use Rattle.marked.specs.Changes.{ValueEntries};
+ghost use Rattle.marked.specs.Tries.{TriedAll};
 ghost use Rattle.diagram.specs.Held.{held};
 
 // What was stored, unless working had no room.
@@ -54,7 +51,7 @@ fn try_in(
 ) -> Tried
     requires { ⌜ Laid (netCircuit (now net)) (now net) × Open (atPlace (now net) lettersPlace) (now letter) (now low) (now high) (now index) used × Roomy (now wletter) (now wlow) (now whigh) (now windex) ⌝ }
     requires { ⌜ ValueEntries (atPlace (now net) lettersPlace) (held (now letter) (now low) (now high) used) used before × ValueEntries (atPlace (now net) lettersPlace) (held (now letter) (now low) (now high) used) used after × PendingEntries used pending × NodeMarks (now net) before after all marks × PendingLeasts (atPlace (now net) lettersPlace) (held (now letter) (now low) (now high) used) pending (now least) ⌝ }
-    ensures { λ r. ⌜ (r .done ≡ true → OutcomeAll (held (now (letter .entry)) (now (low .entry)) (now (high .entry)) used) (storeAll (atPlace (now (net .entry)) lettersPlace) (map (changeOf (netCircuit (now (net .entry))) time all (atPlace (now (net .entry)) lettersPlace) (held (now (letter .entry)) (now (low .entry)) (now (high .entry)) used) before after pending) (nodeNumbers (netCircuit (now (net .entry))))) (held (now (letter .entry)) (now (low .entry)) (now (high .entry)) used)) (now (letter .exit)) (now (low .exit)) (now (high .exit)) (now (index .exit)) (r .many .stop) (r .many .used) (r .many .entries)) × (r .done ≡ false → (now (letter .exit) ≡ now (letter .entry)) × (now (low .exit) ≡ now (low .entry)) × (now (high .exit) ≡ now (high .entry)) × (now (index .exit) ≡ now (index .entry))) ⌝ }
+    ensures { λ r. ⌜ TriedAll (now (net .entry)) time all before after pending used (now (letter .entry)) (now (low .entry)) (now (high .entry)) (now (index .entry)) (now (letter .exit)) (now (low .exit)) (now (high .exit)) (now (index .exit)) r ⌝ }
 {
     let k = net[net::LETTERS];
     let left = masked(marks, pending);
@@ -134,7 +131,7 @@ fn try_first(
 ) -> Tried
     requires { ⌜ Laid (netCircuit (now net)) (now net) × Open (atPlace (now net) lettersPlace) (now letter) (now low) (now high) (now index) used × Lent (now wletter) (now wlow) (now whigh) (now windex) ⌝ }
     requires { ⌜ ValueEntries (atPlace (now net) lettersPlace) (held (now letter) (now low) (now high) used) used before × ValueEntries (atPlace (now net) lettersPlace) (held (now letter) (now low) (now high) used) used after × PendingEntries used pending × NodeMarks (now net) before after all marks × PendingLeasts (atPlace (now net) lettersPlace) (held (now letter) (now low) (now high) used) pending (now least) ⌝ }
-    ensures { λ r. ⌜ (r .done ≡ true → OutcomeAll (held (now (letter .entry)) (now (low .entry)) (now (high .entry)) used) (storeAll (atPlace (now (net .entry)) lettersPlace) (map (changeOf (netCircuit (now (net .entry))) time all (atPlace (now (net .entry)) lettersPlace) (held (now (letter .entry)) (now (low .entry)) (now (high .entry)) used) before after pending) (nodeNumbers (netCircuit (now (net .entry))))) (held (now (letter .entry)) (now (low .entry)) (now (high .entry)) used)) (now (letter .exit)) (now (low .exit)) (now (high .exit)) (now (index .exit)) (r .many .stop) (r .many .used) (r .many .entries)) × (r .done ≡ false → (now (letter .exit) ≡ now (letter .entry)) × (now (low .exit) ≡ now (low .entry)) × (now (high .exit) ≡ now (high .entry)) × (now (index .exit) ≡ now (index .entry))) ⌝ }
+    ensures { λ r. ⌜ TriedAll (now (net .entry)) time all before after pending used (now (letter .entry)) (now (low .entry)) (now (high .entry)) (now (index .entry)) (now (letter .exit)) (now (low .exit)) (now (high .exit)) (now (index .exit)) r ⌝ }
 {
     let size = smaller(wletter.len());
     try_in(
@@ -179,7 +176,7 @@ fn try_all(
 ) -> Tried
     requires { ⌜ Laid (netCircuit (now net)) (now net) × Open (atPlace (now net) lettersPlace) (now letter) (now low) (now high) (now index) used × (lengthsLegal (columns (now wletter) (now wlow) (now whigh)) ≡ true) ⌝ }
     requires { ⌜ ValueEntries (atPlace (now net) lettersPlace) (held (now letter) (now low) (now high) used) used before × ValueEntries (atPlace (now net) lettersPlace) (held (now letter) (now low) (now high) used) used after × PendingEntries used pending × NodeMarks (now net) before after all marks × PendingLeasts (atPlace (now net) lettersPlace) (held (now letter) (now low) (now high) used) pending (now least) ⌝ }
-    ensures { λ r. ⌜ (r .done ≡ true → OutcomeAll (held (now (letter .entry)) (now (low .entry)) (now (high .entry)) used) (storeAll (atPlace (now (net .entry)) lettersPlace) (map (changeOf (netCircuit (now (net .entry))) time all (atPlace (now (net .entry)) lettersPlace) (held (now (letter .entry)) (now (low .entry)) (now (high .entry)) used) before after pending) (nodeNumbers (netCircuit (now (net .entry))))) (held (now (letter .entry)) (now (low .entry)) (now (high .entry)) used)) (now (letter .exit)) (now (low .exit)) (now (high .exit)) (now (index .exit)) (r .many .stop) (r .many .used) (r .many .entries)) × (r .done ≡ false → (now (letter .exit) ≡ now (letter .entry)) × (now (low .exit) ≡ now (low .entry)) × (now (high .exit) ≡ now (high .entry)) × (now (index .exit) ≡ now (index .entry))) ⌝ }
+    ensures { λ r. ⌜ TriedAll (now (net .entry)) time all before after pending used (now (letter .entry)) (now (low .entry)) (now (high .entry)) (now (index .entry)) (now (letter .exit)) (now (low .exit)) (now (high .exit)) (now (index .exit)) r ⌝ }
 {
     let mut long = [0u32; 131072];
     try_in(
@@ -225,7 +222,7 @@ pub fn by_functions(
 ) -> Tried
     requires { ⌜ Laid (netCircuit (now net)) (now net) × Open (atPlace (now net) lettersPlace) (now letter) (now low) (now high) (now index) used × Lent (now wletter) (now wlow) (now whigh) (now windex) ⌝ }
     requires { ⌜ ValueEntries (atPlace (now net) lettersPlace) (held (now letter) (now low) (now high) used) used before × ValueEntries (atPlace (now net) lettersPlace) (held (now letter) (now low) (now high) used) used after × PendingEntries used pending × NodeMarks (now net) before after all marks × PendingLeasts (atPlace (now net) lettersPlace) (held (now letter) (now low) (now high) used) pending (now least) ⌝ }
-    ensures { λ r. ⌜ (r .done ≡ true → OutcomeAll (held (now (letter .entry)) (now (low .entry)) (now (high .entry)) used) (storeAll (atPlace (now (net .entry)) lettersPlace) (map (changeOf (netCircuit (now (net .entry))) time all (atPlace (now (net .entry)) lettersPlace) (held (now (letter .entry)) (now (low .entry)) (now (high .entry)) used) before after pending) (nodeNumbers (netCircuit (now (net .entry))))) (held (now (letter .entry)) (now (low .entry)) (now (high .entry)) used)) (now (letter .exit)) (now (low .exit)) (now (high .exit)) (now (index .exit)) (r .many .stop) (r .many .used) (r .many .entries)) × (r .done ≡ false → (now (letter .exit) ≡ now (letter .entry)) × (now (low .exit) ≡ now (low .entry)) × (now (high .exit) ≡ now (high .entry)) × (now (index .exit) ≡ now (index .entry))) ⌝ }
+    ensures { λ r. ⌜ TriedAll (now (net .entry)) time all before after pending used (now (letter .entry)) (now (low .entry)) (now (high .entry)) (now (index .entry)) (now (letter .exit)) (now (low .exit)) (now (high .exit)) (now (index .exit)) r ⌝ }
 {
     let first = try_first(
         net,
