@@ -13,8 +13,8 @@ use Rattle.format.specs.Circuit.{Circuit, nodeRecord}
 use Rattle.rules.specs.State.{State, valueAt, isDriven}
 use Rattle.rules.specs.Kept.{Channel}
 use Rattle.rules.specs.Sum.{Sum, isThe, leads, farEnd, overArms, ownSum, armOf, joinSums, nodeSum}
-use Rattle.rules.specs.Delay.{Load, ownLoad, loadArm, joinLoads, nodeLoad}
-use Rattle.rules.proofs.Walk.{sum-driven, sum-arms, load-driven, load-arms}
+use Rattle.rules.specs.Delay.{Load, ownLoad, loadArm, joinLoads, isEnd, nodeLoad}
+use Rattle.rules.proofs.Walk.{sum-driven, sum-arms, load-end, load-arms}
 use Rattle.rules.proofs.Range.{total}
 use Rattle.plain.specs.Ready.{Ranged}
 
@@ -60,21 +60,21 @@ module _ (c : Circuit) (s : State) (ks : List Channel) (h : Ranged c s ks) (from
       (bool-cases (isDriven c n))
 
   -- the charge of a delay walk
-  pub load-small : (a new : ℕ) → nodeLoad a new c s ks from n .charge .0 < 2 ^ 31
+  pub load-small : (a : ℕ) (sharing : Bool) (new : ℕ) → nodeLoad a sharing new c s ks from n .charge .0 < 2 ^ 31
   unfolding nodeLoad
-  load-small zero new = h .loads zero new n l
-  load-small (suc a) new =
+  load-small zero sharing new = h .loads zero sharing new n l
+  load-small (suc a) sharing new =
       let charge : Load → ℕ = λ v. v .charge .0 in
       ⊎-elim
-      (λ (e : isDriven c n ≡ true). rw (load-driven c s ks (suc a) new from n e) (omega arith))
-      (λ (e : isDriven c n ≡ false).
+      (λ (e : isEnd sharing new c s n ≡ true). rw (load-end c s ks sharing new (suc a) from n e) (omega arith))
+      (λ (e : isEnd sharing new c s n ≡ false).
       omega (
         arith,
         arms-fewer (leads from n) (leads none n) (leads-root from n)
-            (λ (v : Load) (k : Channel). joinLoads v (loadArm (k .transistor) (nodeLoad a new c s ks (some (k .number)) (farEnd n k)))) charge (λ (k : Channel). loadArm (k .transistor) (nodeLoad a new c s ks (some (k .number)) (farEnd n k)) .charge .0) (λ v k. refl)
+            (λ (v : Load) (k : Channel). joinLoads v (loadArm (k .transistor) (nodeLoad a sharing new c s ks (some (k .number)) (farEnd n k)))) charge (λ (k : Channel). loadArm (k .transistor) (nodeLoad a sharing new c s ks (some (k .number)) (farEnd n k)) .charge .0) (λ v k. refl)
             ks (ownLoad new (nodeRecord c n .capacitance) (valueAt s n)) (ownLoad new (nodeRecord c n .capacitance) (valueAt s n)) (omega arith),
-        ap charge (load-arms c s ks a new from n e),
-        ap charge (load-arms c s ks a new none n e),
-        h .loads (suc a) new n l,
+        ap charge (load-arms c s ks sharing new a from n e),
+        ap charge (load-arms c s ks sharing new a none n e),
+        h .loads (suc a) sharing new n l,
       ))
-      (bool-cases (isDriven c n))
+      (bool-cases (isEnd sharing new c s n))

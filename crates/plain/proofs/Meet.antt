@@ -11,5 +11,5 @@ use Rattle.plain.specs.Ready.{Ranged}
 pub kept-ranged : (c : Circuit) → LegalCell c → (s : State) → Ranged c s (kept c s)
 kept-ranged c legal s = record {
   sums = λ a n l. omega (arith, kept-sum-charge c legal s a n l);
-  loads = λ a new n l. omega (arith, kept-load-charge c legal s a n l new);
+  loads = λ a sharing new n l. omega (arith, kept-load-charge c legal s a n l sharing new);
 }

@@ -1,6 +1,6 @@
 -- The next change of a node of a leaf, by its cases, and that its delay fits 55 bits.
 use mathlib.Core.Path.{_≡_, refl, ap₂}
-use mathlib.Core.Bool.{cond}
+use mathlib.Core.Bool.{Bool, cond}
 use mathlib.Core.Option.{none}
 use mathlib.Core.List.{List}
 use Prim.Native.Nat.{ℕ, _+_, _^_, _<_, min}
@@ -8,10 +8,15 @@ use native.Mathlib.Omega.{arith}
 use lib.ListN.{length, getD}
 use lib.Dec.{leb}
 use borrow.Author.Tests.{eq-eqb, ne-eqb}
-use Rattle.units.proofs.Laws.{at-most-weaken, delay-within}
+use Rattle.units.specs.declared.Resistance.{Resistance}
+use Rattle.units.specs.declared.Resistance.the-variants.{Infinite, Finite}
+use Rattle.units.specs.Range.{AtMost}
+use Rattle.units.specs.Rules.{ceiling}
+use Rattle.units.proofs.Laws.{delay-within}
 use Rattle.rules.specs.State.{valueAt}
-use Rattle.rules.specs.Sum.{newValue}
-use Rattle.rules.specs.Step.{target, delayTo, nextChange}
+use Rattle.rules.specs.Sum.{undriven, newValue}
+use Rattle.rules.specs.Delay.{inOhms}
+use Rattle.rules.specs.Step.{target, delayBy, delayTo, nextChange}
 use Rattle.rules.proofs.Range.{load-at-most}
 use Rattle.net.specs.Net.{nodesPlace, horizonPlace, at, netCircuit}
 use Rattle.net.proofs.Laying.{nodes-length, horizon-at}
@@ -29,14 +34,18 @@ module _ (net leaf : List ℕ) (h : Ready net leaf) (n : ℕ) (l : n < 2 + at ne
   unfolding target
   target-sum = ap₂ (λ (a value : ℕ). newValue (leafSum net leaf a none n) value) (nodes-length net) (value-here net leaf h n l)
 
-  pub delay-small : (new : ℕ) → leafDelay net leaf new n < 2 ^ 55
-  unfolding delayTo
-  delay-small new =
-      let load = leafLoad net leaf (length (netCircuit net .nodes)) new none n in
-      let small = load-small _ _ _ (h .charges) none n (omega (arith, nodes-length net)) (length (netCircuit net .nodes)) new in
-      delay-within (load .resistance) (load .charge)
-      (at-most-weaken (load .resistance) (omega arith) (load-at-most _ _ _ (leaf-resistive net (h .cell) leaf) (length (netCircuit net .nodes)) new none n))
+  pub delay-small : (sharing : Bool) (new : ℕ) → leafDelay net leaf sharing new n < 2 ^ 55
+  unfolding delayBy
+  delay-small sharing new =
+      let load = leafLoad net leaf (length (netCircuit net .nodes)) sharing new none n in
+      let small = load-small _ _ _ (h .charges) none n (omega (arith, nodes-length net)) (length (netCircuit net .nodes)) sharing new in
+      delay-within (inOhms (load .resistance)) (load .charge)
+      (ohms-fit (load .resistance) (load-at-most _ _ _ (leaf-resistive net (h .cell) leaf) sharing new (length (netCircuit net .nodes)) none n))
       (omega (arith, small))
+    where
+      ohms-fit : (r : Resistance) → AtMost ceiling r → inOhms r .0 < 2 ^ 32
+      ohms-fit Infinite p = omega arith
+      ohms-fit (Finite r) p = omega arith
 
 module _ (net leaf : List ℕ) (h : Ready net leaf) (n : ℕ) (k : Noded net n) (time pending : ℕ) where
   value-pending : valueAt (leafState (netCircuit net) pending leaf) n ≡ getD leaf n 0
@@ -49,9 +58,9 @@ module _ (net leaf : List ℕ) (h : Ready net leaf) (n : ℕ) (k : Noded net n) 
 
   -- any other changes at the earlier of its pending time and T + delay, up to the horizon
   pub next-moves : (leafTarget net leaf n ≡ getD leaf n 0 → ⊥)
-      → let first = min pending (time + leafDelay net leaf (leafTarget net leaf n) n) in
+      → let first = min pending (time + leafDelay net leaf (undriven (leafSum net leaf (at net nodesPlace) none n)) (leafTarget net leaf n) n) in
       leafChange net leaf time pending n ≡ cond (leb first (at net horizonPlace)) first 4294967295
-  unfolding nextChange
+  unfolding nextChange delayTo
   next-moves e =
       rw (
         same-target (netCircuit net) (leafState (netCircuit net) pending leaf) (leafState (netCircuit net) 0 leaf) (leafChannels (netCircuit net) leaf) refl n,
@@ -60,4 +69,5 @@ module _ (net leaf : List ℕ) (h : Ready net leaf) (n : ℕ) (k : Noded net n) 
         same-delay (netCircuit net) (leafState (netCircuit net) pending leaf) (leafState (netCircuit net) 0 leaf) (leafChannels (netCircuit net) leaf) refl (leafTarget net leaf n) n,
         leaf-change (netCircuit net) leaf pending n (k .least) (omega (arith, nodes-length net, k .most)),
         horizon-at net,
+        nodes-length net,
       )

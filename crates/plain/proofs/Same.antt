@@ -1,5 +1,6 @@
 -- What the walks and the next change read of a state: its values, and the considered node's next change.
 use mathlib.Core.Path.{_≡_, sym, _∙_, ap}
+use mathlib.Core.Bool.{Bool}
 use mathlib.Core.Option.{Option, none}
 use mathlib.Core.List.{List}
 use Prim.Native.Nat.{ℕ}
@@ -8,9 +9,9 @@ use Rattle.units.specs.Rules as units
 use Rattle.format.specs.Circuit.{Circuit}
 use Rattle.rules.specs.State.{State, valueAt, changeAt}
 use Rattle.rules.specs.Kept.{Channel}
-use Rattle.rules.specs.Sum.{nodeSum}
-use Rattle.rules.specs.Delay.{Load, nodeLoad}
-use Rattle.rules.specs.Step.{target, delayTo, nextChange}
+use Rattle.rules.specs.Sum.{Sum, nodeSum, undriven}
+use Rattle.rules.specs.Delay.{Load, nodeLoad, inOhms}
+use Rattle.rules.specs.Step.{target, delayBy, delayTo, nextChange}
 use Rattle.rules.proofs.Walk.{sum-walk, load-walk}
 
 module _ (c : Circuit) (s t : State) (ks : List Channel) (e : s .values ≡ t .values) where
@@ -22,11 +23,11 @@ module _ (c : Circuit) (s t : State) (ks : List Channel) (e : s .values ≡ t .v
       ∙ sym (sum-walk c t ks a from n)
 
   -- the same delay walks
-  pub same-load : (a new : ℕ) (from : Option ℕ) (n : ℕ) → nodeLoad a new c s ks from n ≡ nodeLoad a new c t ks from n
-  same-load a new from n =
-      ap (λ (vs : List ℕ). nodeLoad a new c (record { values = vs; changes = s .changes }) ks from n) e
-      ∙ load-walk new c (record { values = t .values; changes = s .changes }) ks a from n
-      ∙ sym (load-walk new c t ks a from n)
+  pub same-load : (a : ℕ) (sharing : Bool) (new : ℕ) (from : Option ℕ) (n : ℕ) → nodeLoad a sharing new c s ks from n ≡ nodeLoad a sharing new c t ks from n
+  same-load a sharing new from n =
+      ap (λ (vs : List ℕ). nodeLoad a sharing new c (record { values = vs; changes = s .changes }) ks from n) e
+      ∙ load-walk sharing new c (record { values = t .values; changes = s .changes }) ks a from n
+      ∙ sym (load-walk sharing new c t ks a from n)
 
   same-value : (n : ℕ) → valueAt s n ≡ valueAt t n
   same-value n = ap (λ (vs : List ℕ). valueAt (record { values = vs; changes = s .changes }) n) e
@@ -38,8 +39,10 @@ module _ (c : Circuit) (s t : State) (ks : List Channel) (e : s .values ≡ t .v
 
   -- after the same delays
   pub same-delay : (new n : ℕ) → delayTo c s ks new n ≡ delayTo c t ks new n
-  unfolding delayTo
-  same-delay new n = ap (λ (load : Load). units.delay (load .resistance) (load .charge) .0) (same-load (length (c .nodes)) new none n)
+  unfolding delayTo delayBy
+  same-delay new n =
+      ap (λ (v : Sum). delayBy c s ks (undriven v) new n) (same-sum (length (c .nodes)) none n)
+      ∙ ap (λ (load : Load). units.delay (inOhms (load .resistance)) (load .charge) .0) (same-load (length (c .nodes)) (undriven (nodeSum (length (c .nodes)) c t ks none n)) new none n)
 
   -- and, where the node's pending change is the same too, have the same next change
   pub same-change : (time n : ℕ) → changeAt s n ≡ changeAt t n → nextChange c time s ks n ≡ nextChange c time t ks n

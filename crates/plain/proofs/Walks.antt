@@ -14,7 +14,7 @@ use Rattle.format.specs.Circuit.{nodeRecord}
 use Rattle.rules.specs.State.{valueAt, isDriven}
 use Rattle.rules.specs.Kept.{Channel}
 use Rattle.rules.specs.Sum.{Sum, farEnd, ownSum, armOf, joinSums}
-use Rattle.rules.specs.Delay.{Load, ownLoad, loadArm, joinLoads}
+use Rattle.rules.specs.Delay.{Load, ownLoad, loadArm, joinLoads, isEnd}
 use Rattle.rules.proofs.Walk.{sum-arms, load-arms}
 use Rattle.rules.proofs.Range.{total, sum-of-arm}
 use Rattle.net.specs.Net.{nodesPlace, transistorsPlace, at, netTransistor, netCircuit, netArms}
@@ -39,17 +39,17 @@ Led v = Positive (v .resistance)
 abbrev pub sumArm : List ℕ → List ℕ → ℕ → ℕ → ℕ → Sum
 sumArm net leaf a n i = armOf (netTransistor net i) (leafSum net leaf a (some i) (farEnd n (netChannel net i)))
 
-abbrev pub armLoad : List ℕ → List ℕ → ℕ → ℕ → ℕ → ℕ → Load
-armLoad net leaf a new n i = loadArm (netTransistor net i) (leafLoad net leaf a new (some i) (farEnd n (netChannel net i)))
+abbrev pub armLoad : List ℕ → List ℕ → ℕ → Bool → ℕ → ℕ → ℕ → Load
+armLoad net leaf a sharing new n i = loadArm (netTransistor net i) (leafLoad net leaf a sharing new (some i) (farEnd n (netChannel net i)))
 
 -- the two loops
 abbrev pub SumTurn : List ℕ → List ℕ → ℕ → ℕ → ℕ → ℕ → Sum → Type 0
 SumTurn net leaf allowance from n k v =
     Turn Sided joinSums (sumArm net leaf (allowance - 1) n) (goesOn (isKept leaf) (fromOf from)) (netArms net n) (leafSum net leaf allowance (fromOf from) n) k v
 
-abbrev pub LoadTurn : List ℕ → List ℕ → ℕ → ℕ → ℕ → ℕ → ℕ → Load → Type 0
-LoadTurn net leaf allowance new from n k v =
-    Turn Led joinLoads (armLoad net leaf (allowance - 1) new n) (goesOn (isKept leaf) (fromOf from)) (netArms net n) (leafLoad net leaf allowance new (fromOf from) n) k v
+abbrev pub LoadTurn : List ℕ → List ℕ → ℕ → Bool → ℕ → ℕ → ℕ → ℕ → Load → Type 0
+LoadTurn net leaf allowance sharing new from n k v =
+    Turn Led joinLoads (armLoad net leaf (allowance - 1) sharing new n) (goesOn (isKept leaf) (fromOf from)) (netArms net n) (leafLoad net leaf allowance sharing new (fromOf from) n) k v
 
 -- sums that are not 0 ohms stay so where they are joined
 pub joined-sided : (a b : Sum) → Joinable a b → Sided (joinSums a b)
@@ -86,8 +86,8 @@ module _ (net leaf : List ℕ) (h : Ready net leaf) where
       let r = h .cell .within .transistor i g .least in
       record { high = armSide-in-range _ _ _ r .positive; low = armSide-in-range _ _ _ r .positive }
 
-  pub arm-led : (a new n i : ℕ) → i < at net transistorsPlace → Led (armLoad net leaf a new n i)
-  arm-led a new n i g = armSide-in-range _ _ Infinite (h .cell .within .transistor i g .least) .positive
+  pub arm-led : (a : ℕ) (sharing : Bool) (new n i : ℕ) → i < at net transistorsPlace → Led (armLoad net leaf a sharing new n i)
+  arm-led a sharing new n i g = armSide-in-range _ _ Infinite (h .cell .within .transistor i g .least) .positive
 
   module _ (allowance from n : ℕ) (some-left : 1 ≤ allowance) (l : n < 2 + at net nodesPlace) where
     one-less : allowance ≡ suc (allowance - 1)
@@ -106,16 +106,16 @@ module _ (net leaf : List ℕ) (h : Ready net leaf) where
           ∙ ap (λ (x : ℕ). foldArms (goesOn (isKept leaf) (fromOf from)) (λ (v : Sum) (i : ℕ). joinSums v (sumArm net leaf (allowance - 1) n i)) (ownSum (nodeRecord (netCircuit net) n .capacitance) x) (netArms net n)) (value-here n l);
     }
 
-    pub load-starts : (new : ℕ) → isDriven (netCircuit net) n ≡ false → LoadTurn net leaf allowance new from n 0 (ownLoad new (nodeRecord (netCircuit net) n .capacitance) (getD leaf n 0))
-    load-starts new e = record {
+    pub load-starts : (sharing : Bool) (new : ℕ) → isEnd sharing new (netCircuit net) (leafState (netCircuit net) 0 leaf) n ≡ false → LoadTurn net leaf allowance sharing new from n 0 (ownLoad new (nodeRecord (netCircuit net) n .capacitance) (getD leaf n 0))
+    load-starts sharing new e = record {
       within = omega arith;
       good = tt;
       rest =
-          ap (λ (a : ℕ). leafLoad net leaf a new (fromOf from) n) one-less
-          ∙ load-arms (netCircuit net) (leafState (netCircuit net) 0 leaf) (leafChannels (netCircuit net) leaf) (allowance - 1) new (fromOf from) n e
+          ap (λ (a : ℕ). leafLoad net leaf a sharing new (fromOf from) n) one-less
+          ∙ load-arms (netCircuit net) (leafState (netCircuit net) 0 leaf) (leafChannels (netCircuit net) leaf) sharing new (allowance - 1) (fromOf from) n e
           ∙ arms-fold net (h .cell) n l leaf (fromOf from)
-          (λ (v : Load) (k : Channel). joinLoads v (loadArm (k .transistor) (leafLoad net leaf (allowance - 1) new (some (k .number)) (farEnd n k)))) _
-          ∙ ap (λ (x : ℕ). foldArms (goesOn (isKept leaf) (fromOf from)) (λ (v : Load) (i : ℕ). joinLoads v (armLoad net leaf (allowance - 1) new n i)) (ownLoad new (nodeRecord (netCircuit net) n .capacitance) x) (netArms net n)) (value-here n l);
+          (λ (v : Load) (k : Channel). joinLoads v (loadArm (k .transistor) (leafLoad net leaf (allowance - 1) sharing new (some (k .number)) (farEnd n k)))) _
+          ∙ ap (λ (x : ℕ). foldArms (goesOn (isKept leaf) (fromOf from)) (λ (v : Load) (i : ℕ). joinLoads v (armLoad net leaf (allowance - 1) sharing new n i)) (ownLoad new (nodeRecord (netCircuit net) n .capacitance) x) (netArms net n)) (value-here n l);
     }
 
     module _ (k i : ℕ) (b : Bool) (g : k < length (netArms net n)) (at-k : i ≡ getD (netArms net n) k 0) (is-one : i < at net transistorsPlace)
@@ -140,12 +140,12 @@ module _ (net leaf : List ℕ) (h : Ready net leaf) where
       pub sum-turns : (v : Sum) → SumTurn net leaf allowance from n k v → SumTurn net leaf allowance from n (k + 1) (joinSums v (sumArm net leaf (allowance - 1) n i))
       sum-turns v t = turn-joins t g i at-k b test goes (joined-sided v _ (sum-joins v t))
 
-      pub load-joins : (new : ℕ) (v : Load) → LoadTurn net leaf allowance new from n k v → JoinableLoads v (armLoad net leaf (allowance - 1) new n i)
-      load-joins new v t =
-          let whole : leafLoad net leaf allowance new (fromOf from) n .charge .0 < 2 ^ 31 = load-small _ _ _ (h .charges) (fromOf from) n (node-in n l) allowance new in
-          let part : joinLoads v (armLoad net leaf (allowance - 1) new n i) .charge .0 ≤ leafLoad net leaf allowance new (fromOf from) n .charge .0 =
+      pub load-joins : (sharing : Bool) (new : ℕ) (v : Load) → LoadTurn net leaf allowance sharing new from n k v → JoinableLoads v (armLoad net leaf (allowance - 1) sharing new n i)
+      load-joins sharing new v t =
+          let whole : leafLoad net leaf allowance sharing new (fromOf from) n .charge .0 < 2 ^ 31 = load-small _ _ _ (h .charges) (fromOf from) n (node-in n l) allowance sharing new in
+          let part : joinLoads v (armLoad net leaf (allowance - 1) sharing new n i) .charge .0 ≤ leafLoad net leaf allowance sharing new (fromOf from) n .charge .0 =
           turn-part t g i at-k b test goes (λ (w : Load). w .charge .0) (λ w j. omega arith) in
-          record { a-positive = t .good; b-positive = arm-led (allowance - 1) new n i is-one; fits = omega arith }
+          record { a-positive = t .good; b-positive = arm-led (allowance - 1) sharing new n i is-one; fits = omega arith }
 
-      pub load-turns : (new : ℕ) (v : Load) → LoadTurn net leaf allowance new from n k v → LoadTurn net leaf allowance new from n (k + 1) (joinLoads v (armLoad net leaf (allowance - 1) new n i))
-      load-turns new v t = turn-joins t g i at-k b test goes (joined-led v _ (load-joins new v t))
+      pub load-turns : (sharing : Bool) (new : ℕ) (v : Load) → LoadTurn net leaf allowance sharing new from n k v → LoadTurn net leaf allowance sharing new from n (k + 1) (joinLoads v (armLoad net leaf (allowance - 1) sharing new n i))
+      load-turns sharing new v t = turn-joins t g i at-k b test goes (joined-led v _ (load-joins sharing new v t))

@@ -12,7 +12,7 @@ use Rattle.rules.specs.State.{State}
 use Rattle.rules.specs.Kept.{Channel}
 use Rattle.rules.specs.Sum as rules
 use Rattle.rules.specs.Delay as rules-delay
-use Rattle.rules.specs.Step.{target, delayTo, nextChange}
+use Rattle.rules.specs.Step.{target, delayBy, nextChange}
 use Rattle.net.specs.Net.{netTransistor, netCircuit}
 use Rattle.net.specs.Roots.{keptPlace}
 use Rattle.plain.specs.declared.Sum.{Sum}
@@ -49,16 +49,16 @@ abbrev pub leafSum : List ℕ → List ℕ → ℕ → Option ℕ → ℕ → ru
 leafSum net leaf allowance from n =
     rules.nodeSum allowance (netCircuit net) (leafState (netCircuit net) 0 leaf) (leafChannels (netCircuit net) leaf) from n
 
-abbrev pub leafLoad : List ℕ → List ℕ → ℕ → ℕ → Option ℕ → ℕ → rules-delay.Load
-leafLoad net leaf allowance new from n =
-    rules-delay.nodeLoad allowance new (netCircuit net) (leafState (netCircuit net) 0 leaf) (leafChannels (netCircuit net) leaf) from n
+abbrev pub leafLoad : List ℕ → List ℕ → ℕ → Bool → ℕ → Option ℕ → ℕ → rules-delay.Load
+leafLoad net leaf allowance sharing new from n =
+    rules-delay.nodeLoad allowance sharing new (netCircuit net) (leafState (netCircuit net) 0 leaf) (leafChannels (netCircuit net) leaf) from n
 
--- what a node of a leaf goes to, its delay to a new value, and its next change
+-- what a node of a leaf goes to, its delay to a new value by either walk, and its next change
 abbrev pub leafTarget : List ℕ → List ℕ → ℕ → ℕ
 leafTarget net leaf n = target (netCircuit net) (leafState (netCircuit net) 0 leaf) (leafChannels (netCircuit net) leaf) n
 
-abbrev pub leafDelay : List ℕ → List ℕ → ℕ → ℕ → ℕ
-leafDelay net leaf new n = delayTo (netCircuit net) (leafState (netCircuit net) 0 leaf) (leafChannels (netCircuit net) leaf) new n
+abbrev pub leafDelay : List ℕ → List ℕ → Bool → ℕ → ℕ → ℕ
+leafDelay net leaf sharing new n = delayBy (netCircuit net) (leafState (netCircuit net) 0 leaf) (leafChannels (netCircuit net) leaf) sharing new n
 
 abbrev pub leafChange : List ℕ → List ℕ → ℕ → ℕ → ℕ → ℕ
 leafChange net leaf time pending n = nextChange (netCircuit net) time (leafState (netCircuit net) pending leaf) (leafChannels (netCircuit net) leaf) n

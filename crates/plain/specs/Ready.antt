@@ -2,6 +2,7 @@
 use Prim.Native.Nat.{ℕ, _+_, _^_, _≤_, _<_}
 use mathlib.Core.List.{List}
 use mathlib.Core.Path.{_≡_}
+use mathlib.Core.Bool.{Bool}
 use mathlib.Core.Option.{none}
 use lib.ListN.{length, getD}
 use Rattle.format.specs.Circuit.{Circuit, firstNodeNumber}
@@ -34,7 +35,7 @@ pub record Leaf (c : Circuit) (leaf : List ℕ) : Type 0 where
 -- the charges of the walks from any node stay small
 pub record Ranged (c : Circuit) (s : State) (ks : List Channel) : Type 0 where
   pub sums : (a n : ℕ) → n < firstNodeNumber + length (c .nodes) → nodeSum a c s ks none n .highCharge .0 + nodeSum a c s ks none n .lowCharge .0 < 2 ^ 31
-  pub loads : (a new n : ℕ) → n < firstNodeNumber + length (c .nodes) → nodeLoad a new c s ks none n .charge .0 < 2 ^ 31
+  pub loads : (a : ℕ) (sharing : Bool) (new n : ℕ) → n < firstNodeNumber + length (c .nodes) → nodeLoad a sharing new c s ks none n .charge .0 < 2 ^ 31
 
 -- all of it, as each walk asks it
 pub record Ready (net leaf : List ℕ) : Type 0 where

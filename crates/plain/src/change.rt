@@ -6,18 +6,21 @@ use crate::reads::read;
 use crate::sums::node_sum;
 use net::NODES;
 use net::quantities::horizon;
+use units::Ohms;
 use units::Picoseconds;
 use units::Resistance;
 use units::delay;
 ghost use mathlib.Core.Path.{_≡_};
 ghost use mathlib.Core.Bool.{cond};
+ghost use mathlib.Core.Option.{none};
 ghost use Prim.Native.Nat.{_+_, _<_, _^_, min};
 ghost use lib.Dec.{leb};
 ghost use lib.ListN.{getD};
 ghost use Rattle.diagram.specs.Table.{never};
-ghost use Rattle.rules.specs.Sum.{infinite as infiniteOf, less as lessOf, decided as decidedOf, newValue};
+ghost use Rattle.rules.specs.Sum.{infinite as infiniteOf, less as lessOf, decided as decidedOf, undriven as undrivenOf, newValue};
+ghost use Rattle.rules.specs.Delay.{inOhms};
 ghost use Rattle.net.specs.Net.{nodesPlace};
-ghost use Rattle.plain.specs.Leaf.{sumOf, leafTarget, leafDelay, leafChange};
+ghost use Rattle.plain.specs.Leaf.{sumOf, leafSum, leafDelay, leafChange};
 ghost use Rattle.plain.specs.Ready.{Noded, Ready};
 
 // No next change.
@@ -56,45 +59,64 @@ fn decided(up: bool, down: bool, present: u32) -> u32
     present
 }
 
-// The new value of a node with this sum.
-pub fn new_value(sum: Sum, present: u32) -> u32
-    ensures { λ r. ⌜ r ≡ newValue (sumOf sum) present ⌝ }
+// Whether neither side of this sum drives.
+fn undriven(sum: Sum) -> bool
+    ensures { λ r. ⌜ r ≡ undrivenOf (sumOf sum) ⌝ }
 {
     let high = sum.high;
     let low = sum.low;
     if infinite(high) {
-        if infinite(low) {
-            let raised = sum.raised;
-            let lowered = sum.lowered;
-            return decided(lowered.0 < raised.0, raised.0 < lowered.0, present);
-        }
+        return infinite(low);
     }
+    false
+}
+
+// The new value of a node with this sum.
+pub fn new_value(sum: Sum, present: u32) -> u32
+    ensures { λ r. ⌜ r ≡ newValue (sumOf sum) present ⌝ }
+{
+    if undriven(sum) {
+        let raised = sum.raised;
+        let lowered = sum.lowered;
+        return decided(lowered.0 < raised.0, raised.0 < lowered.0, present);
+    }
+    let high = sum.high;
+    let low = sum.low;
     decided(less(high, low), less(low, high), present)
 }
 
-// The value that node n goes to.
-pub fn target_of(net: &[u32], leaf: &[u32], n: u32) -> u32
+// The sum of the node that a walk is for.
+fn sum_at(net: &[u32], leaf: &[u32], n: u32) -> Sum
     requires { ⌜ Ready (now net) (now leaf) ⌝ }
     requires { ⌜ n < 2 + getD (now net) nodesPlace 0 ⌝ }
-    ensures { λ r. ⌜ r ≡ leafTarget (now (net .entry)) (now (leaf .entry)) n ⌝ }
+    ensures { λ r. ⌜ sumOf r ≡ leafSum (now (net .entry)) (now (leaf .entry)) (getD (now (net .entry)) nodesPlace 0) none n ⌝ }
 {
     let nodes = read(net, NODES);
-    let present = read(leaf, n as usize);
-    let sum = node_sum(net, leaf, nodes, NONE, n);
-    new_value(sum, present)
+    node_sum(net, leaf, nodes, NONE, n)
 }
 
-// The delay of node n to a new value. It may need more than 32 bits.
-pub fn delay_to(net: &[u32], leaf: &[u32], new: u32, n: u32) -> Picoseconds
+// The ohms of a delay walk. An infinite resistance has none; no node that changes has one.
+fn in_ohms(r: Resistance) -> Ohms
+    ensures { λ o. ⌜ o ≡ inOhms r ⌝ }
+{
+    match r {
+        Resistance::Infinite => Ohms(Ohms::CEILING),
+        Resistance::Finite(o) => o,
+    }
+}
+
+// The delay of node n to a new value, where charge is shared or a side drives. It may need more than 32 bits.
+fn delay_to(net: &[u32], leaf: &[u32], sharing: bool, new: u32, n: u32) -> Picoseconds
     requires { ⌜ Ready (now net) (now leaf) ⌝ }
     requires { ⌜ n < 2 + getD (now net) nodesPlace 0 ⌝ }
-    ensures { λ r. ⌜ (r .0 ≡ leafDelay (now (net .entry)) (now (leaf .entry)) new n) × (r .0 < 2 ^ 55) ⌝ }
+    ensures { λ r. ⌜ (r .0 ≡ leafDelay (now (net .entry)) (now (leaf .entry)) sharing new n) × (r .0 < 2 ^ 55) ⌝ }
 {
     let nodes = read(net, NODES);
-    let load = node_load(net, leaf, nodes, new, NONE, n);
+    let load = node_load(net, leaf, nodes, sharing, new, NONE, n);
     let resistance = load.resistance;
     let charge = load.charge;
-    delay(resistance, charge)
+    let ohms = in_ohms(resistance);
+    delay(ohms, charge)
 }
 
 // The earlier of two times where it is not past the horizon, else never.
@@ -123,11 +145,13 @@ pub fn next_change(net: &[u32], leaf: &[u32], time: u32, pending: u32, n: u32) -
     requires { ⌜ Noded (now net) n ⌝ }
     ensures { λ r. ⌜ r ≡ leafChange (now (net .entry)) (now (leaf .entry)) time pending n ⌝ }
 {
-    let new = target_of(net, leaf, n);
-    if new == read(leaf, n as usize) {
+    let present = read(leaf, n as usize);
+    let sum = sum_at(net, leaf, n);
+    let new = new_value(sum, present);
+    if new == present {
         return NEVER;
     }
-    let d = delay_to(net, leaf, new, n);
+    let d = delay_to(net, leaf, undriven(sum), new, n);
     let last = horizon(net);
     let at = Picoseconds(time as u64).later(d);
     in_horizon(last, pending, at)

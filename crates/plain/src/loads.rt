@@ -1,4 +1,4 @@
-// Step rule 6: the delay walk, of the same shape as the node sum's.
+// Step rule 6, as document 02's wish 6 amends it: the delay walk, of the same shape as the node sum's but for its ends.
 use crate::Load;
 use crate::reads::arm_at;
 use crate::reads::degree_of;
@@ -19,9 +19,9 @@ ghost use Prim.Native.Nat.{_+_, _<_};
 ghost use lib.ListN.{getD};
 ghost use Rattle.format.specs.Circuit.{nodeRecord};
 ghost use Rattle.rules.specs.Sum.{farEnd};
-ghost use Rattle.rules.specs.Delay.{drivenLoad, ownLoad, loadArm, joinLoads};
+ghost use Rattle.rules.specs.Delay.{drivenLoad, ownLoad, loadArm, joinLoads, isEnd};
 ghost use Rattle.net.specs.Net.{nodesPlace, transistorsPlace, netTransistor, netCircuit};
-ghost use Rattle.plain.specs.Leaf.{fromOf, netChannel, leafLoad, loadOf};
+ghost use Rattle.plain.specs.Leaf.{fromOf, netChannel, leafState, leafLoad, loadOf};
 ghost use Rattle.plain.specs.Ready.{Net, Noded, Ready, JoinableLoads};
 
 // A driven end of this value.
@@ -93,24 +93,39 @@ fn join_loads(a: Load, b: Load) -> Load
     }
 }
 
+// Whether a delay walk ends at node n: at a driven end, and where charge is shared at a node too that already holds the new value.
+fn is_end(net: &[u32], leaf: &[u32], sharing: bool, new: u32, n: u32) -> bool
+    requires { ⌜ Ready (now net) (now leaf) ⌝ }
+    requires { ⌜ n < 2 + getD (now net) nodesPlace 0 ⌝ }
+    ensures { λ r. ⌜ r ≡ isEnd sharing new (netCircuit (now (net .entry))) (leafState (netCircuit (now (net .entry))) 0 (now (leaf .entry))) n ⌝ }
+{
+    if is_driven(net, n) {
+        return true;
+    }
+    if sharing {
+        return read(leaf, n as usize) == new;
+    }
+    false
+}
+
 // The arm of transistor i at node n for the new value: the allowance is that of the far node.
-pub fn load_arm(net: &[u32], leaf: &[u32], allowance: u32, new: u32, i: u32, n: u32) -> Load
+pub fn load_arm(net: &[u32], leaf: &[u32], allowance: u32, sharing: bool, new: u32, i: u32, n: u32) -> Load
     requires { ⌜ Ready (now net) (now leaf) ⌝ }
     requires { ⌜ i < getD (now net) transistorsPlace 0 ⌝ }
-    ensures { λ r. ⌜ loadOf r ≡ loadArm (netTransistor (now (net .entry)) i) (leafLoad (now (net .entry)) (now (leaf .entry)) allowance new (some i) (farEnd n (netChannel (now (net .entry)) i))) ⌝ }
+    ensures { λ r. ⌜ loadOf r ≡ loadArm (netTransistor (now (net .entry)) i) (leafLoad (now (net .entry)) (now (leaf .entry)) allowance sharing new (some i) (farEnd n (netChannel (now (net .entry)) i))) ⌝ }
 {
     let far = far_end(net, i, n);
-    let load = node_load(net, leaf, allowance, new, i, far);
+    let load = node_load(net, leaf, allowance, sharing, new, i, far);
     before_load(net, i, load)
 }
 
 // What node n, reached by transistor `from` (64: by none), has for the new value.
-pub fn node_load(net: &[u32], leaf: &[u32], allowance: u32, new: u32, from: u32, n: u32) -> Load
+pub fn node_load(net: &[u32], leaf: &[u32], allowance: u32, sharing: bool, new: u32, from: u32, n: u32) -> Load
     requires { ⌜ Ready (now net) (now leaf) ⌝ }
     requires { ⌜ n < 2 + getD (now net) nodesPlace 0 ⌝ }
-    ensures { λ r. ⌜ loadOf r ≡ leafLoad (now (net .entry)) (now (leaf .entry)) allowance new (fromOf from) n ⌝ }
+    ensures { λ r. ⌜ loadOf r ≡ leafLoad (now (net .entry)) (now (leaf .entry)) allowance sharing new (fromOf from) n ⌝ }
 {
-    if is_driven(net, n) {
+    if is_end(net, leaf, sharing, new, n) {
         return driven_load(new, read(leaf, n as usize));
     }
     let mut load = own_load(net, leaf, new, n);
@@ -122,7 +137,7 @@ pub fn node_load(net: &[u32], leaf: &[u32], allowance: u32, new: u32, from: u32,
     while k < degree {
         let i = arm_at(net, n, k);
         if is_arm(leaf, from, i) {
-            let one = load_arm(net, leaf, allowance - 1, new, i, n);
+            let one = load_arm(net, leaf, allowance - 1, sharing, new, i, n);
             load = join_loads(load, one);
         }
         k += 1;

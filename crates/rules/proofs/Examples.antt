@@ -40,16 +40,17 @@ unfoldable pub listing : ℕ → ℕ → Circuit → List Line
 unfolding opened lineOf linesFrom linesOf
 listing steps pattern c = linesOf steps pattern (checkCircuit c)
 
--- Charge alone decides: while the channel conducts, 30 fF high against 20 fF low, and the low node rises after 1 ps, whatever the ohms.
+-- Charge alone decides: while the channel conducts, 30 fF high against 20 fF low. The high node counts as an end, over 1000 ohm, and the low one
+-- rises after 20 ps.
 abbrev sharing : Circuit
-sharing = cell 0 (input low ∷ inner high 30 ∷ inner low 20 ∷ []) (nType 2 3 4 1000000 ∷ []) (at 5 2 high ∷ at 7 2 low ∷ [])
+sharing = cell 0 (input low ∷ inner high 30 ∷ inner low 20 ∷ []) (nType 2 3 4 1000 ∷ []) (at 5 2 high ∷ at 27 2 low ∷ [])
 
 pub charge-shared :
     listing 3 0 sharing
     ≡ line 0 (0 ∷ 1 ∷ 0 ∷ []) (never ∷ never ∷ never ∷ [])
-    ∷ line 5 (1 ∷ 1 ∷ 0 ∷ []) (never ∷ never ∷ 6 ∷ [])
-    ∷ line 6 (1 ∷ 1 ∷ 1 ∷ []) (never ∷ never ∷ never ∷ [])
-    ∷ line 7 (0 ∷ 1 ∷ 1 ∷ []) (never ∷ never ∷ never ∷ [])
+    ∷ line 5 (1 ∷ 1 ∷ 0 ∷ []) (never ∷ never ∷ 25 ∷ [])
+    ∷ line 25 (1 ∷ 1 ∷ 1 ∷ []) (never ∷ never ∷ never ∷ [])
+    ∷ line 27 (0 ∷ 1 ∷ 1 ∷ []) (never ∷ never ∷ never ∷ [])
     ∷ []
 unfolding listing
 charge-shared = refl

@@ -16,4 +16,5 @@ pub mod Forest
 pub mod Walk
 pub mod Range
 pub mod Local
+pub mod Sharing
 pub mod Matrix

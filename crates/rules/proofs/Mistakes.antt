@@ -73,7 +73,7 @@ unfolding listing
 all-flips-before-reading = refl
 
 -- A precharged output 2 behind two n in series, the middle 3 low. At 10 the lower one shuts as the upper one opens: nothing drives, and
--- the output's 50 fF lift the middle after 1 ps. With the upper one open before the lower one shuts the output would be driven low.
+-- the output's 50 fF lift the middle's 10 fF over 1000 ohm after 10 ps. With the upper one open before the lower one shuts the output would be driven low.
 abbrev precharged : Circuit
 precharged =
     cell 0
@@ -84,11 +84,51 @@ precharged =
 pub no-path-in-between :
     listing 2 0 precharged
     ≡ line 0 (1 ∷ 0 ∷ 0 ∷ 1 ∷ []) (never ∷ never ∷ never ∷ never ∷ [])
-    ∷ line 10 (1 ∷ 0 ∷ 1 ∷ 0 ∷ []) (never ∷ 11 ∷ never ∷ never ∷ [])
-    ∷ line 11 (1 ∷ 1 ∷ 1 ∷ 0 ∷ []) (never ∷ never ∷ never ∷ never ∷ [])
+    ∷ line 10 (1 ∷ 0 ∷ 1 ∷ 0 ∷ []) (never ∷ 20 ∷ never ∷ never ∷ [])
+    ∷ line 20 (1 ∷ 1 ∷ 1 ∷ 0 ∷ []) (never ∷ never ∷ never ∷ never ∷ [])
     ∷ []
 unfolding listing
 no-path-in-between = refl
+
+-- Charge that moves past a node of the old value. A high node 2 of 100 fF lifts 3 and, behind it, 4. Node 3: 1000 ohm to node 2, and behind an
+-- infinite arm all of node 4's charge, 10 + 20 fF: 30. Node 4: 2000 ohm, 20 + 10 × 1000 / 2000 = 25 fF: 50. Were node 3 an end, node 4 would have
+-- no path, or with node 3 at the new value 20; with nothing but rails and inputs as ends, neither would have one.
+abbrev handedOn : Circuit
+handedOn = cell 0 (inner high 100 ∷ inner low 10 ∷ inner low 20 ∷ []) (nType supply 2 3 1000 ∷ nType supply 3 4 1000 ∷ []) []
+
+pub charge-handed-on : listing 0 0 handedOn ≡ line 0 (1 ∷ 0 ∷ 0 ∷ []) (never ∷ 30 ∷ 50 ∷ []) ∷ []
+unfolding listing
+charge-handed-on = refl
+
+-- Holders counted as ends where a side drives. Supply lifts node 2 over 1000 ohm, 10 fF: 10. Node 3 behind it is high already and drives
+-- nothing; as an end beside supply it would make 500 ohm: 5.
+abbrev heldBeside : Circuit
+heldBeside = cell 0 (inner low 10 ∷ inner high 50 ∷ []) (pType ground supply 2 1000 ∷ nType supply 2 3 1000 ∷ []) []
+
+pub holders-do-not-drive : listing 0 0 heldBeside ≡ line 0 (0 ∷ 1 ∷ []) (10 ∷ never ∷ []) ∷ []
+unfolding listing
+holders-do-not-drive = refl
+
+-- Two holders, 2 and 4, on either side of node 3: 1000 ohm beside 3000, 750, and 40 fF: 30. Node 5 behind holder 4 is low: 4 alone is its end,
+-- over 500 ohm, 30 fF: 15; its charge is not node 3's.
+abbrev betweenHolders : Circuit
+betweenHolders =
+    cell 0
+    (inner high 50 ∷ inner low 40 ∷ inner high 50 ∷ inner low 30 ∷ [])
+    (nType supply 2 3 1000 ∷ nType supply 3 4 3000 ∷ nType supply 4 5 500 ∷ [])
+    []
+
+pub ends-at-holders : listing 0 0 betweenHolders ≡ line 0 (1 ∷ 0 ∷ 1 ∷ 0 ∷ []) (never ∷ 30 ∷ never ∷ 15 ∷ []) ∷ []
+unfolding listing
+ends-at-holders = refl
+
+-- The least delay is 1: 1 ohm and 1 fF.
+abbrev leastDelay : Circuit
+leastDelay = cell 0 (inner low 2 ∷ inner high 1 ∷ []) (nType supply 2 3 1 ∷ []) []
+
+pub least-delay : listing 0 0 leastDelay ≡ line 0 (0 ∷ 1 ∷ []) (never ∷ 1 ∷ []) ∷ []
+unfolding listing
+least-delay = refl
 
 -- the numbers of the kept transistors at the start
 pub keptNumbers : Circuit → List ℕ

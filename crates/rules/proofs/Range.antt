@@ -2,7 +2,7 @@
 -- once at most, because the kept channels form a forest.
 use mathlib.Core.Path.{_≡_, refl, sym, _∙_, ap, ap₂, subst}
 use mathlib.Core.Logic.{_⊎_, inl, inr, ⊎-elim, ⊎-map}
-use mathlib.Core.Bool.{Bool, true, false, not, _&&_, cond, and-false}
+use mathlib.Core.Bool.{Bool, true, false, not, _&&_, cond, and-false, or-false}
 use mathlib.Core.Option.{Option, some, none}
 use mathlib.Core.List.{List, [], _∷_, _++_, List·Memᴰ, List·Memᴰ·head, List·Memᴰ·tail, List·Memᴰ·not-nil, List·Memᴰ·append-cases, List·Memᴰ·eq-of-singleton}
 use Prim.Native.Nat.{ℕ, zero, suc, _+_, _-_, _*_, _≤_, _<_}
@@ -26,18 +26,18 @@ use Rattle.format.proofs.Legal.{LegalCell}
 use Rattle.rules.specs.State.{State, valueAt, isDriven, isInner}
 use Rattle.rules.specs.Kept.{Channel, kept}
 use Rattle.rules.specs.Sum.{Sum, leads, farEnd, overArms, drivenSum, ownSum, armOf, joinSums, nodeSum, infinite, less, decided, newValue}
-use Rattle.rules.specs.Delay.{Load, ownLoad, loadArm, joinLoads, nodeLoad}
+use Rattle.rules.specs.Delay.{Load, ownLoad, loadArm, joinLoads, isEnd, nodeLoad}
 use Rattle.rules.proofs.Label.{IsNode, all-legal, inner-node}
 use Rattle.rules.proofs.Forest.{Inner, Cut, Rising}
-use Rattle.rules.proofs.Walk.{Rule, walk, sumRule, loadRule, arms-all, walk-related, sum-walk, load-walk, walk-driven, Distinct, distinct-length, Ends, leads-ends, ends-to, ends-from, ends-both, number-one, Kept, kept-kept, Way, way-root, step-inner, step-new, way-step, sum-driven, sum-own, sum-arms, load-driven, load-own, load-arms}
+use Rattle.rules.proofs.Walk.{Rule, walk, sumRule, loadRule, arms-all, walk-within, walk-related, sum-walk, load-walk, walk-end, not-end-inner, Distinct, distinct-length, Ends, leads-ends, ends-to, ends-from, ends-both, number-one, Kept, kept-kept, Way, way-root, step-inner, step-new, way-step, sum-driven, sum-own, sum-arms, load-end, load-own, load-arms}
 
 -- the rule of the inner nodes that a walk comes to, in order, as often as it does
-abbrev pub passRule : Rule (List ℕ)
-passRule = record { driven = λ n. []; own = λ n. n ∷ []; add = λ v k far. v ++ far }
+abbrev pub passRule : Circuit → Rule (List ℕ)
+passRule c = record { ends = λ n. isDriven c n; driven = λ n. []; own = λ n. n ∷ []; add = λ v k far. v ++ far }
 
 -- those nodes
 abbrev pub passed : Circuit → List Channel → ℕ → Option ℕ → ℕ → List ℕ
-passed c ks a from n = walk c ks passRule a from n
+passed c ks a from n = walk ks (passRule c) a from n
 
 -- an element that a list of lists has over the channels that lead away
 record Arm (away : Channel → Bool) (g : Channel → List ℕ) (ks : List Channel) (x : ℕ) : Type 0 where
@@ -105,7 +105,7 @@ module _ (away : Channel → Bool) (g : Channel → List ℕ) where
 
 module _ (c : Circuit) (ks : List Channel) where
   passed-driven : (a : ℕ) (from : Option ℕ) (n : ℕ) → isDriven c n ≡ true → passed c ks a from n ≡ []
-  passed-driven a from n e = walk-driven c ks passRule a from n e
+  passed-driven a from n e = walk-end ks (passRule c) a from n e
 
   passed-end : (from : Option ℕ) (n : ℕ) → isDriven c n ≡ false → passed c ks zero from n ≡ n ∷ []
   unfolding walk
@@ -207,17 +207,17 @@ module _ (c : Circuit) (ks : List Channel) where
         (arms-listed (leads from n) (armPassed a n) ks (n ∷ []) x (subst (List·Memᴰ x) (passed-arms a from n (not-true (isDriven c n) (w .inner))) m))
 
 -- the rule of how many inner nodes a walk comes to
-abbrev pub reachRule : Rule ℕ
-reachRule = record { driven = λ n. 0; own = λ n. 1; add = λ v k far. v + far }
+abbrev pub reachRule : Circuit → Rule ℕ
+reachRule c = record { ends = λ n. isDriven c n; driven = λ n. 0; own = λ n. 1; add = λ v k far. v + far }
 
 -- how many they are
 abbrev pub reach : Circuit → List Channel → ℕ → Option ℕ → ℕ → ℕ
-reach c ks a from n = walk c ks reachRule a from n
+reach c ks a from n = walk ks (reachRule c) a from n
 
 module _ (c : Circuit) (ks : List Channel) where
   reach-length : (a : ℕ) (from : Option ℕ) (n : ℕ) → reach c ks a from n ≡ length (passed c ks a from n)
   reach-length a from n =
-      walk-related (λ (v : ℕ) (l : List ℕ). v ≡ length l) c ks reachRule passRule (λ m e. refl) (λ m e. refl)
+      walk-related (λ (v : ℕ) (l : List ℕ). v ≡ length l) ks (reachRule c) (passRule c) (λ m. refl) (λ m e. refl) (λ m e. refl)
       (λ k m v x w y p q. let z : length (w ++ y) ≡ length w + length y = length-append w y in omega arith)
       a from n
 
@@ -236,7 +236,7 @@ module _ (c : Circuit) (ks : List Channel) where
     pub reach-root : (a n : ℕ) → n < 2 + length (c .nodes) → reach c ks a none n ≤ length (c .nodes)
     reach-root a n i =
         ⊎-elim
-        (λ (d : isDriven c n ≡ true). omega (arith, walk-driven c ks reachRule a none n d))
+        (λ (d : isDriven c n ≡ true). omega (arith, walk-end ks (reachRule c) a none n d))
         (λ (d : isDriven c n ≡ false). reach-way a none n [] (way-root c ks h n (ap not d) (inner-node c (length (c .nodes)) n (ap not d) i)))
         (bool-cases (isDriven c n))
 
@@ -258,12 +258,12 @@ pub record Charge {A : Type 0} (r : Rule A) (m : A → ℕ) : Type 0 where
   pub own : (n : ℕ) → m (r .own n) ≤ mostCapacitance
   pub add : (k : Channel) (v x : A) → m (r .add v k x) ≤ m v + m x
 
-module _ {A : Type 0} (r : Rule A) (m : A → ℕ) (q : Charge r m) (c : Circuit) (ks : List Channel) where
+module _ {A : Type 0} (r : Rule A) (m : A → ℕ) (q : Charge r m) (c : Circuit) (wide : (n : ℕ) → r .ends n ≡ false → isDriven c n ≡ false) (ks : List Channel) where
   -- it is at most the most capacitance of each inner node that the walk comes to
-  pub charge-reach : (a : ℕ) (from : Option ℕ) (n : ℕ) → m (walk c ks r a from n) ≤ mostCapacitance * reach c ks a from n
+  pub charge-reach : (a : ℕ) (from : Option ℕ) (n : ℕ) → m (walk ks r a from n) ≤ mostCapacitance * reach c ks a from n
   charge-reach a from n =
-      walk-related (λ (v : A) (w : ℕ). m v ≤ mostCapacitance * w) c ks r reachRule
-      (λ i e. omega (arith, q .driven i)) (λ i e. omega (arith, q .own i))
+      walk-within (λ (v : A) (w : ℕ). m v ≤ mostCapacitance * w) ks r (reachRule c)
+      (λ i e w at. omega (arith, q .driven i)) (λ i e. (wide i e, omega (arith, q .own i)))
       (λ k _ v x w y p s. omega (arith, q .add k v x))
       a from n
 
@@ -281,8 +281,8 @@ module _ (c : Circuit) (s : State) (l : Limited c) where
       own-most false f h = omega arith
 
   -- and that of a delay walk is
-  pub load-charge : (new : ℕ) → Charge (loadRule new c s) (λ (v : Load). v .charge .0)
-  load-charge new = record {
+  pub load-charge : (sharing : Bool) (new : ℕ) → Charge (loadRule sharing new c s) (λ (v : Load). v .charge .0)
+  load-charge sharing new = record {
     driven = λ n. refl;
     own = λ n. own-most (eqb (valueAt s n) new) (nodeRecord c n .capacitance) (l n);
     add = λ k v x. omega (arith, share-at-most (k .transistor .resistance) (x .resistance) (x .charge));
@@ -295,13 +295,13 @@ module _ (c : Circuit) (s : State) (l : Limited c) where
 module _ (c : Circuit) (s : State) (l : Limited c) (ks : List Channel) (a : ℕ) (from : Option ℕ) (n : ℕ) where
   -- the charges of a node sum by the inner nodes that its walk comes to
   pub sum-reach : total (nodeSum a c s ks from n) ≤ mostCapacitance * reach c ks a from n
-  sum-reach = subst (λ (v : Sum). total v ≤ mostCapacitance * reach c ks a from n) (sym (sum-walk c s ks a from n)) (charge-reach (sumRule c s) total (sum-charge c s l) c ks a from n)
+  sum-reach = subst (λ (v : Sum). total v ≤ mostCapacitance * reach c ks a from n) (sym (sum-walk c s ks a from n)) (charge-reach (sumRule c s) total (sum-charge c s l) c (λ m e. e) ks a from n)
 
   -- the charge of a delay walk
-  pub load-reach : (new : ℕ) → nodeLoad a new c s ks from n .charge .0 ≤ mostCapacitance * reach c ks a from n
-  load-reach new =
-      subst (λ (v : Load). v .charge .0 ≤ mostCapacitance * reach c ks a from n) (sym (load-walk new c s ks a from n))
-      (charge-reach (loadRule new c s) (λ (v : Load). v .charge .0) (load-charge c s l new) c ks a from n)
+  pub load-reach : (sharing : Bool) (new : ℕ) → nodeLoad a sharing new c s ks from n .charge .0 ≤ mostCapacitance * reach c ks a from n
+  load-reach sharing new =
+      subst (λ (v : Load). v .charge .0 ≤ mostCapacitance * reach c ks a from n) (sym (load-walk sharing new c s ks a from n))
+      (charge-reach (loadRule sharing new c s) (λ (v : Load). v .charge .0) (load-charge c s l sharing new) c (not-end-inner sharing new c s) ks a from n)
 
 module _ (c : Circuit) (legal : LegalCell c) (s : State) (a n : ℕ) (i : n < 2 + length (c .nodes)) where
   -- a walk over the kept channels of a legal cell comes to 24 inner nodes at most
@@ -313,8 +313,8 @@ module _ (c : Circuit) (legal : LegalCell c) (s : State) (a n : ℕ) (i : n < 2 
   kept-sum-charge = omega (arith, kept-reach, sum-reach c s (legal-limited legal) (kept c s) a none n)
 
   -- and the charge of a delay walk
-  pub kept-load-charge : (new : ℕ) → nodeLoad a new c s (kept c s) none n .charge .0 ≤ mostCapacitance * mostNodes
-  kept-load-charge new = omega (arith, kept-reach, load-reach c s (legal-limited legal) (kept c s) a none n new)
+  pub kept-load-charge : (sharing : Bool) (new : ℕ) → nodeLoad a sharing new c s (kept c s) none n .charge .0 ≤ mostCapacitance * mostNodes
+  kept-load-charge sharing new = omega (arith, kept-reach, load-reach c s (legal-limited legal) (kept c s) a none n sharing new)
 
 -- both sides of a sum are in an arm's range: infinite, or 1 ohm to the ceiling
 pub record SumInRange (v : Sum) : Type 0 where
@@ -394,24 +394,25 @@ module _ (c : Circuit) (s : State) (ks : List Channel) (h : Resistive ks) where
       (λ (e : isDriven c n ≡ false). in-range-arm (nodeSum a c s ks from n) (sum-in-range a from n e))
       (bool-cases (isDriven c n))
 
-  -- the resistance of an inner node's delay walk is infinite, or 1 ohm to the ceiling
-  pub load-in-range : (a new : ℕ) (from : Option ℕ) (n : ℕ) → isDriven c n ≡ false → InRange (nodeLoad a new c s ks from n .resistance)
-  load-in-range zero new from n e = subst (λ (v : Load). InRange (v .resistance)) (sym (load-own c s ks new from n e)) infinite-in-range
-  load-in-range (suc a) new from n e =
-      subst (λ (v : Load). InRange (v .resistance)) (sym (load-arms c s ks a new from n e))
-      (load-arms-in-range (leads from n) (λ (k : Channel). nodeLoad a new c s ks (some (k .number)) (farEnd n k)) ks h new (nodeRecord c n .capacitance) (valueAt s n))
+  module _ (sharing : Bool) (new : ℕ) where
+    -- where a delay walk goes on, its resistance is infinite, or 1 ohm to the ceiling
+    pub load-in-range : (a : ℕ) (from : Option ℕ) (n : ℕ) → isEnd sharing new c s n ≡ false → InRange (nodeLoad a sharing new c s ks from n .resistance)
+    load-in-range zero from n e = subst (λ (v : Load). InRange (v .resistance)) (sym (load-own c s ks sharing new from n e)) infinite-in-range
+    load-in-range (suc a) from n e =
+        subst (λ (v : Load). InRange (v .resistance)) (sym (load-arms c s ks sharing new a from n e))
+        (load-arms-in-range (leads from n) (λ (k : Channel). nodeLoad a sharing new c s ks (some (k .number)) (farEnd n k)) ks h new (nodeRecord c n .capacitance) (valueAt s n))
 
-  -- and that of any node is at most the ceiling
-  pub load-at-most : (a new : ℕ) (from : Option ℕ) (n : ℕ) → AtMost ceiling (nodeLoad a new c s ks from n .resistance)
-  load-at-most a new from n =
-      ⊎-elim
-      (λ (e : isDriven c n ≡ true). subst (λ (v : Load). AtMost ceiling (v .resistance)) (sym (load-driven c s ks a new from n e)) (by (eqb (valueAt s n) new)))
-      (λ (e : isDriven c n ≡ false). load-in-range a new from n e .atMost)
-      (bool-cases (isDriven c n))
-    where
-      by : (b : Bool) → AtMost ceiling (cond b (Finite (ohms 0)) Infinite)
-      by true = omega arith
-      by false = tt
+    -- and that of any node is at most the ceiling
+    pub load-at-most : (a : ℕ) (from : Option ℕ) (n : ℕ) → AtMost ceiling (nodeLoad a sharing new c s ks from n .resistance)
+    load-at-most a from n =
+        ⊎-elim
+        (λ (e : isEnd sharing new c s n ≡ true). subst (λ (v : Load). AtMost ceiling (v .resistance)) (sym (load-end c s ks sharing new a from n e)) (by (eqb (valueAt s n) new)))
+        (λ (e : isEnd sharing new c s n ≡ false). load-in-range a from n e .atMost)
+        (bool-cases (isEnd sharing new c s n))
+      where
+        by : (b : Bool) → AtMost ceiling (cond b (Finite (ohms 0)) Infinite)
+        by true = omega arith
+        by false = tt
 
 -- two in parallel are infinite exactly where both are
 infinite-parallel : (a b : Resistance) → infinite (parallel a b) ≡ infinite a && infinite b
@@ -427,7 +428,7 @@ infinite-arm r Infinite other = refl
 infinite-arm r (Finite side) Infinite = refl
 infinite-arm r (Finite side) (Finite other) = refl
 
-infinite-join : (r : Ohms) (a side other : Resistance) → infinite (parallel a (armSide r side other)) ≡ infinite a && infinite side
+pub infinite-join : (r : Ohms) (a side other : Resistance) → infinite (parallel a (armSide r side other)) ≡ infinite a && infinite side
 infinite-join r a side other = infinite-parallel a (armSide r side other) ∙ ap (λ (b : Bool). infinite a && b) (infinite-arm r side other)
 
 -- arms of two walks that are infinite alike
@@ -435,22 +436,22 @@ infinite-alike : (r : Ohms) (a b x y other more : Resistance) → infinite a ≡
 infinite-alike r a b x y other more p q = infinite-join r a x other ∙ ap₂ _&&_ p q ∙ sym (infinite-join r b y more)
 
 module _ (c : Circuit) (s : State) (ks : List Channel) where
-  -- the delay's resistance to 1 is infinite exactly where the high side of the node sum is
-  pub load-high : (a : ℕ) (from : Option ℕ) (n : ℕ) → infinite (nodeLoad a 1 c s ks from n .resistance) ≡ infinite (nodeSum a c s ks from n .high)
+  -- by a walk that ends at driven ends alone, the delay's resistance to 1 is infinite exactly where the high side of the node sum is
+  pub load-high : (a : ℕ) (from : Option ℕ) (n : ℕ) → infinite (nodeLoad a false 1 c s ks from n .resistance) ≡ infinite (nodeSum a c s ks from n .high)
   load-high a from n =
-      ap (λ (v : Load). infinite (v .resistance)) (load-walk 1 c s ks a from n)
-      ∙ walk-related (λ (v : Load) (w : Sum). infinite (v .resistance) ≡ infinite (w .high)) c ks (loadRule 1 c s) (sumRule c s)
-      (λ m e. refl) (λ m e. refl)
+      ap (λ (v : Load). infinite (v .resistance)) (load-walk false 1 c s ks a from n)
+      ∙ walk-related (λ (v : Load) (w : Sum). infinite (v .resistance) ≡ infinite (w .high)) ks (loadRule false 1 c s) (sumRule c s)
+      (λ m. or-false (isDriven c m)) (λ m e. refl) (λ m e. refl)
       (λ k _ v x w y p q. infinite-alike (k .transistor .resistance) (v .resistance) (w .high) (x .resistance) (y .high) Infinite (y .low) p q)
       a from n
       ∙ ap (λ (v : Sum). infinite (v .high)) (sym (sum-walk c s ks a from n))
 
   -- and to 0 where the low side is, where each driven end is at 0 or 1
-  pub load-low : ((m : ℕ) → isDriven c m ≡ true → valueAt s m ≤ 1) → (a : ℕ) (from : Option ℕ) (n : ℕ) → infinite (nodeLoad a 0 c s ks from n .resistance) ≡ infinite (nodeSum a c s ks from n .low)
+  pub load-low : ((m : ℕ) → isDriven c m ≡ true → valueAt s m ≤ 1) → (a : ℕ) (from : Option ℕ) (n : ℕ) → infinite (nodeLoad a false 0 c s ks from n .resistance) ≡ infinite (nodeSum a c s ks from n .low)
   load-low two a from n =
-      ap (λ (v : Load). infinite (v .resistance)) (load-walk 0 c s ks a from n)
-      ∙ walk-related (λ (v : Load) (w : Sum). infinite (v .resistance) ≡ infinite (w .low)) c ks (loadRule 0 c s) (sumRule c s)
-      (λ m e. end (valueAt s m) (two m e)) (λ m e. refl)
+      ap (λ (v : Load). infinite (v .resistance)) (load-walk false 0 c s ks a from n)
+      ∙ walk-related (λ (v : Load) (w : Sum). infinite (v .resistance) ≡ infinite (w .low)) ks (loadRule false 0 c s) (sumRule c s)
+      (λ m. or-false (isDriven c m)) (λ m e. end (valueAt s m) (two m e)) (λ m e. refl)
       (λ k _ v x w y p q. infinite-alike (k .transistor .resistance) (v .resistance) (w .low) (x .resistance) (y .low) Infinite (y .high) p q)
       a from n
       ∙ ap (λ (v : Sum). infinite (v .low)) (sym (sum-walk c s ks a from n))
@@ -497,16 +498,3 @@ new-side v present ne = by (infinite (v .high)) (infinite (v .low)) refl refl ne
     by true true eh el n = by-charge (ltb (v .lowCharge .0) (v .highCharge .0)) (ltb (v .highCharge .0) (v .lowCharge .0)) n
     by true false eh el n = by-side true false eh el (less (v .high) (v .low)) (less (v .low) (v .high)) refl refl n
     by false l eh el n = by-side false l eh el (less (v .high) (v .low)) (less (v .low) (v .high)) refl refl n
-
--- the delay to a new value is over an infinite resistance exactly where both sides of the node sum are infinite, and charge decided
-pub load-infinite : (c : Circuit) (s : State) (ks : List Channel) → ((m : ℕ) → isDriven c m ≡ true → valueAt s m ≤ 1) → (a : ℕ) (from : Option ℕ) (n present : ℕ)
-    → (newValue (nodeSum a c s ks from n) present ≡ present → ⊥)
-    → infinite (nodeLoad a (newValue (nodeSum a c s ks from n) present) c s ks from n .resistance) ≡ infinite (nodeSum a c s ks from n .high) && infinite (nodeSum a c s ks from n .low)
-load-infinite c s ks two a from n present ne =
-    let v : Sum = nodeSum a c s ks from n in
-    ⊎-elim
-    (λ (p : (newValue v present ≡ 1) × (infinite (v .high) ≡ infinite (v .high) && infinite (v .low))).
-    ap (λ (new : ℕ). infinite (nodeLoad a new c s ks from n .resistance)) (p .0) ∙ load-high c s ks a from n ∙ p .1)
-    (λ (p : (newValue v present ≡ 0) × (infinite (v .low) ≡ infinite (v .high) && infinite (v .low))).
-    ap (λ (new : ℕ). infinite (nodeLoad a new c s ks from n .resistance)) (p .0) ∙ load-low c s ks two a from n ∙ p .1)
-    (new-side v present ne)

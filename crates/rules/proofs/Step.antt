@@ -21,7 +21,7 @@ use Rattle.rules.specs.Arrive.{sourceAt, flips, arrivedChange, arrived}
 use Rattle.rules.specs.Group.{Labels, joined, betweenInner, touched, reconsidered}
 use Rattle.rules.specs.Kept.{Channel, conducts, keeps, kept}
 use Rattle.rules.specs.Sum.{Sum, infinite, less, decided, newValue}
-use Rattle.rules.specs.Step.{target, delayTo, inHorizon, nextChange, stepped, initial, started}
+use Rattle.rules.specs.Step.{target, delayBy, delayTo, inHorizon, nextChange, stepped, initial, started}
 use Rattle.rules.proofs.State.{Numbered, Shaped, Bits, Pending, map-value, map-change, map-shaped, numbers-length}
 use Rattle.rules.proofs.Arrive.{cond-bit, source-bit, arrived-shaped, arrived-change, arrived-bits, stepped-values, stepped-changes, stepped-value, stepped-change, steppedChange, untouched-keeps}
 
@@ -52,7 +52,7 @@ target-bit c s ks n h = new-bit _ (valueAt s n) h
 
 -- a delay is at least 1
 pub delay-least : (c : Circuit) (s : State) (ks : List Channel) (new n : ℕ) → 1 ≤ delayTo c s ks new n
-unfolding delayTo
+unfolding delayTo delayBy
 delay-least c s ks new n = delay-positive _ _
 
 -- with a driven end there are not two inner nodes

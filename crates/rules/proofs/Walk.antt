@@ -2,7 +2,7 @@
 -- the nodes on the way from the root are different node records, because each channel on the way has a cut.
 use mathlib.Core.Path.{_≡_, refl, sym, _∙_, ap, subst}
 use mathlib.Core.Logic.{_⊎_, inl, inr, ⊎-elim}
-use mathlib.Core.Bool.{Bool, true, false, not, _||_, cond}
+use mathlib.Core.Bool.{Bool, true, false, not, _||_, _&&_, cond}
 use mathlib.Core.Option.{Option, some, none}
 use mathlib.Core.List.{List, [], _∷_, List·Memᴰ, List·Memᴰ·head, List·Memᴰ·tail, List·Memᴰ·not-nil, List·Memᴰ·cases-cons}
 use Prim.Native.Nat.{ℕ, zero, suc, _+_, _≤_, _<_}
@@ -16,35 +16,38 @@ use Rattle.format.specs.Circuit.{Circuit, nodeRecord}
 use Rattle.rules.specs.State.{State, valueAt, isDriven, isInner}
 use Rattle.rules.specs.Kept.{Channel, kept}
 use Rattle.rules.specs.Sum.{Sum, isThe, leads, farEnd, overArms, drivenSum, ownSum, armOf, joinSums, nodeSum}
-use Rattle.rules.specs.Delay.{Load, drivenLoad, ownLoad, loadArm, joinLoads, nodeLoad}
+use Rattle.rules.specs.Delay.{Load, drivenLoad, ownLoad, loadArm, joinLoads, isEnd, nodeLoad}
 use Rattle.rules.proofs.Label.{IsNode, AllLegal, inner-node}
 use Rattle.rules.proofs.Forest.{Inner, Cut, Forest, Rising, kept-forest, kept-rising, kept-stems}
 
--- what a walk does at a driven end, at an inner node by itself, and with what comes back over a channel
+-- where a walk ends, and what it does at such an end, at any other node by itself, and with what comes back over a channel
 pub record Rule (A : Type 0) : Type 0 where
+  pub ends : ℕ → Bool
   pub driven : ℕ → A
   pub own : ℕ → A
   pub add : A → Channel → A → A
 
 -- a walk over channels
-unfoldable pub walk : {A : Type 0} → Circuit → List Channel → Rule A → ℕ → Option ℕ → ℕ → A
-walk c ks r zero from n = cond (isDriven c n) (r .driven n) (r .own n)
-walk {A} c ks r (suc allowance) from n =
-    cond (isDriven c n)
+unfoldable pub walk : {A : Type 0} → List Channel → Rule A → ℕ → Option ℕ → ℕ → A
+walk ks r zero from n = cond (r .ends n) (r .driven n) (r .own n)
+walk {A} ks r (suc allowance) from n =
+    cond (r .ends n)
     (r .driven n)
-    (overArms (leads from n) (λ (v : A) (k : Channel). r .add v k (walk c ks r allowance (some (k .number)) (farEnd n k))) (r .own n) ks)
+    (overArms (leads from n) (λ (v : A) (k : Channel). r .add v k (walk ks r allowance (some (k .number)) (farEnd n k))) (r .own n) ks)
 
 -- the node sum's rule
 abbrev pub sumRule : Circuit → State → Rule Sum
 sumRule c s = record {
+  ends = λ n. isDriven c n;
   driven = λ n. drivenSum (valueAt s n);
   own = λ n. ownSum (nodeRecord c n .capacitance) (valueAt s n);
   add = λ v k far. joinSums v (armOf (k .transistor) far);
 }
 
 -- the delay walk's rule
-abbrev pub loadRule : ℕ → Circuit → State → Rule Load
-loadRule new c s = record {
+abbrev pub loadRule : Bool → ℕ → Circuit → State → Rule Load
+loadRule sharing new c s = record {
+  ends = λ n. isEnd sharing new c s n;
   driven = λ n. drivenLoad new (valueAt s n);
   own = λ n. ownLoad new (nodeRecord c n .capacitance) (valueAt s n);
   add = λ v k far. joinLoads v (loadArm (k .transistor) far);
@@ -72,57 +75,71 @@ pub arms-same : {A : Type 0} (away : Channel → Bool) (f g : A → Channel → 
     → ((k : Channel) → List·Memᴰ k ks → away k ≡ true → (v : A) → f v k ≡ g v k) → (o : A) → overArms away f o ks ≡ overArms away g o ks
 arms-same {A} away f g ks h o = arms-related (_≡_ {A = A}) away f g ks (λ k m e v w q. h k m e v ∙ ap (λ (u : A). g u k) q) o o refl
 
--- a test between related things
-pub cond-related : {A B : Type 0} (R : A → B → Type 0) (t : Bool) (a x : A) (b y : B) → (t ≡ true → R a b) → (t ≡ false → R x y) → R (cond t a x) (cond t b y)
-cond-related R true a x b y p q = p refl
-cond-related R false a x b y p q = q refl
+-- two tests between related things, of which the first holds wherever the second does
+ends-related : {A B : Type 0} (R : A → B → Type 0) (t u : Bool) (a x : A) (b y : B)
+    → (t ≡ true → (w : B) → (u ≡ true → w ≡ b) → R a w) → (t ≡ false → (u ≡ false) × R x y) → R (cond t a x) (cond u b y)
+ends-related R true u a x b y p q = p refl (cond u b y) (λ e. rw e)
+ends-related R false u a x b y p q = let z = q refl in rw (z .0) (z .1)
 
-module _ {A B : Type 0} (R : A → B → Type 0) (c : Circuit) (ks : List Channel) (r : Rule A) (q : Rule B)
-    (driven : (n : ℕ) → isDriven c n ≡ true → R (r .driven n) (q .driven n))
-    (own : (n : ℕ) → isDriven c n ≡ false → R (r .own n) (q .own n))
+module _ {A B : Type 0} (R : A → B → Type 0) (ks : List Channel) (r : Rule A) (q : Rule B)
+    (ended : (n : ℕ) → r .ends n ≡ true → (w : B) → (q .ends n ≡ true → w ≡ q .driven n) → R (r .driven n) w)
+    (goes : (n : ℕ) → r .ends n ≡ false → (q .ends n ≡ false) × R (r .own n) (q .own n))
     (add : (k : Channel) → List·Memᴰ k ks → (v x : A) (w y : B) → R v w → R x y → R (r .add v k x) (q .add w k y)) where
-  -- walks by related rules come to related things
-  pub walk-related : (a : ℕ) (from : Option ℕ) (n : ℕ) → R (walk c ks r a from n) (walk c ks q a from n)
+  -- walks by related rules come to related things, where the first ends wherever the second does, or before it
+  pub walk-within : (a : ℕ) (from : Option ℕ) (n : ℕ) → R (walk ks r a from n) (walk ks q a from n)
   unfolding walk
-  walk-related zero from n = cond-related R (isDriven c n) (r .driven n) (r .own n) (q .driven n) (q .own n) (driven n) (own n)
-  walk-related (suc a) from n =
-      let f : A → Channel → A = λ v k. r .add v k (walk c ks r a (some (k .number)) (farEnd n k)) in
-      let g : B → Channel → B = λ w k. q .add w k (walk c ks q a (some (k .number)) (farEnd n k)) in
-      let below : (k : Channel) → R (walk c ks r a (some (k .number)) (farEnd n k)) (walk c ks q a (some (k .number)) (farEnd n k)) = λ k. walk-related a (some (k .number)) (farEnd n k) in
-      cond-related R (isDriven c n) (r .driven n) (overArms (leads from n) f (r .own n) ks) (q .driven n) (overArms (leads from n) g (q .own n) ks) (driven n)
-      (λ e. arms-related R (leads from n) f g ks (λ k m _ v w p. add k m v _ w _ p (below k)) (r .own n) (q .own n) (own n e))
+  walk-within zero from n = ends-related R (r .ends n) (q .ends n) (r .driven n) (r .own n) (q .driven n) (q .own n) (ended n) (goes n)
+  walk-within (suc a) from n =
+      let f : A → Channel → A = λ v k. r .add v k (walk ks r a (some (k .number)) (farEnd n k)) in
+      let g : B → Channel → B = λ w k. q .add w k (walk ks q a (some (k .number)) (farEnd n k)) in
+      let below : (k : Channel) → R (walk ks r a (some (k .number)) (farEnd n k)) (walk ks q a (some (k .number)) (farEnd n k)) = λ k. walk-within a (some (k .number)) (farEnd n k) in
+      ends-related R (r .ends n) (q .ends n) (r .driven n) (overArms (leads from n) f (r .own n) ks) (q .driven n) (overArms (leads from n) g (q .own n) ks) (ended n)
+      (λ e. (goes n e .0, arms-related R (leads from n) f g ks (λ k m _ v w p. add k m v _ w _ p (below k)) (r .own n) (q .own n) (goes n e .1)))
+
+module _ {A B : Type 0} (R : A → B → Type 0) (ks : List Channel) (r : Rule A) (q : Rule B)
+    (same : (n : ℕ) → r .ends n ≡ q .ends n)
+    (driven : (n : ℕ) → q .ends n ≡ true → R (r .driven n) (q .driven n))
+    (own : (n : ℕ) → q .ends n ≡ false → R (r .own n) (q .own n))
+    (add : (k : Channel) → List·Memᴰ k ks → (v x : A) (w y : B) → R v w → R x y → R (r .add v k x) (q .add w k y)) where
+  -- so they do where both end at the same nodes
+  pub walk-related : (a : ℕ) (from : Option ℕ) (n : ℕ) → R (walk ks r a from n) (walk ks q a from n)
+  walk-related a from n =
+      walk-within R ks r q
+      (λ m e w at. let z : q .ends m ≡ true = sym (same m) ∙ e in rw (at z) (driven m z))
+      (λ m e. let z : q .ends m ≡ false = sym (same m) ∙ e in (z, own m z))
+      add a from n
 
 -- the node sum is the walk with its rule
-pub sum-walk : (c : Circuit) (s : State) (ks : List Channel) (a : ℕ) (from : Option ℕ) (n : ℕ) → nodeSum a c s ks from n ≡ walk c ks (sumRule c s) a from n
+pub sum-walk : (c : Circuit) (s : State) (ks : List Channel) (a : ℕ) (from : Option ℕ) (n : ℕ) → nodeSum a c s ks from n ≡ walk ks (sumRule c s) a from n
 unfolding nodeSum walk
 sum-walk c s ks zero from n = refl
 sum-walk c s ks (suc a) from n =
     ap (cond (isDriven c n) (drivenSum (valueAt s n)))
     (arms-same (leads from n)
     (λ (v : Sum) (k : Channel). joinSums v (armOf (k .transistor) (nodeSum a c s ks (some (k .number)) (farEnd n k))))
-    (λ (v : Sum) (k : Channel). joinSums v (armOf (k .transistor) (walk c ks (sumRule c s) a (some (k .number)) (farEnd n k))))
+    (λ (v : Sum) (k : Channel). joinSums v (armOf (k .transistor) (walk ks (sumRule c s) a (some (k .number)) (farEnd n k))))
     ks
     (λ k m e v. ap (λ (far : Sum). joinSums v (armOf (k .transistor) far)) (sum-walk c s ks a (some (k .number)) (farEnd n k)))
     (ownSum (nodeRecord c n .capacitance) (valueAt s n)))
 
 -- the delay walk is the walk with its rule
-pub load-walk : (new : ℕ) (c : Circuit) (s : State) (ks : List Channel) (a : ℕ) (from : Option ℕ) (n : ℕ) → nodeLoad a new c s ks from n ≡ walk c ks (loadRule new c s) a from n
+pub load-walk : (sharing : Bool) (new : ℕ) (c : Circuit) (s : State) (ks : List Channel) (a : ℕ) (from : Option ℕ) (n : ℕ) → nodeLoad a sharing new c s ks from n ≡ walk ks (loadRule sharing new c s) a from n
 unfolding nodeLoad walk
-load-walk new c s ks zero from n = refl
-load-walk new c s ks (suc a) from n =
-    ap (cond (isDriven c n) (drivenLoad new (valueAt s n)))
+load-walk sharing new c s ks zero from n = refl
+load-walk sharing new c s ks (suc a) from n =
+    ap (cond (isEnd sharing new c s n) (drivenLoad new (valueAt s n)))
     (arms-same (leads from n)
-    (λ (v : Load) (k : Channel). joinLoads v (loadArm (k .transistor) (nodeLoad a new c s ks (some (k .number)) (farEnd n k))))
-    (λ (v : Load) (k : Channel). joinLoads v (loadArm (k .transistor) (walk c ks (loadRule new c s) a (some (k .number)) (farEnd n k))))
+    (λ (v : Load) (k : Channel). joinLoads v (loadArm (k .transistor) (nodeLoad a sharing new c s ks (some (k .number)) (farEnd n k))))
+    (λ (v : Load) (k : Channel). joinLoads v (loadArm (k .transistor) (walk ks (loadRule sharing new c s) a (some (k .number)) (farEnd n k))))
     ks
-    (λ k m e v. ap (λ (far : Load). joinLoads v (loadArm (k .transistor) far)) (load-walk new c s ks a (some (k .number)) (farEnd n k)))
+    (λ k m e v. ap (λ (far : Load). joinLoads v (loadArm (k .transistor) far)) (load-walk sharing new c s ks a (some (k .number)) (farEnd n k)))
     (ownLoad new (nodeRecord c n .capacitance) (valueAt s n)))
 
--- at a driven end a walk ends, whatever its allowance
-pub walk-driven : {A : Type 0} (c : Circuit) (ks : List Channel) (r : Rule A) (a : ℕ) (from : Option ℕ) (n : ℕ) → isDriven c n ≡ true → walk c ks r a from n ≡ r .driven n
+-- at an end a walk ends, whatever its allowance
+pub walk-end : {A : Type 0} (ks : List Channel) (r : Rule A) (a : ℕ) (from : Option ℕ) (n : ℕ) → r .ends n ≡ true → walk ks r a from n ≡ r .driven n
 unfolding walk
-walk-driven c ks r zero from n e = rw e
-walk-driven c ks r (suc a) from n e = rw e
+walk-end ks r zero from n e = rw e
+walk-end ks r (suc a) from n e = rw e
 
 -- the node sum at a node after some of its arms
 abbrev pub sumOver : ℕ → Circuit → State → List Channel → Option ℕ → ℕ → List Channel → Sum
@@ -130,14 +147,14 @@ sumOver a c s ks from n some-arms =
     overArms (leads from n) (λ (sum : Sum) (k : Channel). joinSums sum (armOf (k .transistor) (nodeSum a c s ks (some (k .number)) (farEnd n k)))) (ownSum (nodeRecord c n .capacitance) (valueAt s n)) some-arms
 
 -- the delay walk there
-abbrev pub loadOver : ℕ → ℕ → Circuit → State → List Channel → Option ℕ → ℕ → List Channel → Load
-loadOver a new c s ks from n some-arms =
-    overArms (leads from n) (λ (load : Load) (k : Channel). joinLoads load (loadArm (k .transistor) (nodeLoad a new c s ks (some (k .number)) (farEnd n k)))) (ownLoad new (nodeRecord c n .capacitance) (valueAt s n)) some-arms
+abbrev pub loadOver : ℕ → Bool → ℕ → Circuit → State → List Channel → Option ℕ → ℕ → List Channel → Load
+loadOver a sharing new c s ks from n some-arms =
+    overArms (leads from n) (λ (load : Load) (k : Channel). joinLoads load (loadArm (k .transistor) (nodeLoad a sharing new c s ks (some (k .number)) (farEnd n k)))) (ownLoad new (nodeRecord c n .capacitance) (valueAt s n)) some-arms
 
 module _ (c : Circuit) (s : State) (ks : List Channel) where
   -- at a driven end a node sum is the end's
   pub sum-driven : (a : ℕ) (from : Option ℕ) (n : ℕ) → isDriven c n ≡ true → nodeSum a c s ks from n ≡ drivenSum (valueAt s n)
-  sum-driven a from n e = sum-walk c s ks a from n ∙ walk-driven c ks (sumRule c s) a from n e
+  sum-driven a from n e = sum-walk c s ks a from n ∙ walk-end ks (sumRule c s) a from n e
 
   -- at an inner node with nothing allowed it is the node's own
   pub sum-own : (from : Option ℕ) (n : ℕ) → isDriven c n ≡ false → nodeSum zero c s ks from n ≡ ownSum (nodeRecord c n .capacitance) (valueAt s n)
@@ -149,19 +166,20 @@ module _ (c : Circuit) (s : State) (ks : List Channel) where
   unfolding nodeSum
   sum-arms a from n e = rw e
 
-  -- at a driven end a delay walk is the end's
-  pub load-driven : (a new : ℕ) (from : Option ℕ) (n : ℕ) → isDriven c n ≡ true → nodeLoad a new c s ks from n ≡ drivenLoad new (valueAt s n)
-  load-driven a new from n e = load-walk new c s ks a from n ∙ walk-driven c ks (loadRule new c s) a from n e
+  module _ (sharing : Bool) (new : ℕ) where
+    -- at an end a delay walk is the end's
+    pub load-end : (a : ℕ) (from : Option ℕ) (n : ℕ) → isEnd sharing new c s n ≡ true → nodeLoad a sharing new c s ks from n ≡ drivenLoad new (valueAt s n)
+    load-end a from n e = load-walk sharing new c s ks a from n ∙ walk-end ks (loadRule sharing new c s) a from n e
 
-  -- at an inner node with nothing allowed it is the node's own
-  pub load-own : (new : ℕ) (from : Option ℕ) (n : ℕ) → isDriven c n ≡ false → nodeLoad zero new c s ks from n ≡ ownLoad new (nodeRecord c n .capacitance) (valueAt s n)
-  unfolding nodeLoad
-  load-own new from n e = rw e
+    -- at any other node with nothing allowed it is the node's own
+    pub load-own : (from : Option ℕ) (n : ℕ) → isEnd sharing new c s n ≡ false → nodeLoad zero sharing new c s ks from n ≡ ownLoad new (nodeRecord c n .capacitance) (valueAt s n)
+    unfolding nodeLoad
+    load-own from n e = rw e
 
-  -- and else that with all of its arms
-  pub load-arms : (a new : ℕ) (from : Option ℕ) (n : ℕ) → isDriven c n ≡ false → nodeLoad (suc a) new c s ks from n ≡ loadOver a new c s ks from n ks
-  unfolding nodeLoad
-  load-arms a new from n e = rw e
+    -- and else that with all of its arms
+    pub load-arms : (a : ℕ) (from : Option ℕ) (n : ℕ) → isEnd sharing new c s n ≡ false → nodeLoad (suc a) sharing new c s ks from n ≡ loadOver a sharing new c s ks from n ks
+    unfolding nodeLoad
+    load-arms a from n e = rw e
 
 -- no number stands twice
 unfoldable pub Distinct : List ℕ → Type 0
@@ -403,47 +421,56 @@ module _ (c : Circuit) (ks : List Channel) (h : Kept c ks) where
       distinct-length 2 (length (c .nodes)) (n ∷ ps) (w .distinct)
       (λ x m. let i : IsNode (length (c .nodes)) x = w .nodes x m in (i .least, i .most))
 
-  module _ {A : Type 0} (r : Rule A) where
+  module _ {A : Type 0} (r : Rule A) (wide : (n : ℕ) → r .ends n ≡ false → isDriven c n ≡ false) where
     -- a walk on a way does not depend on its allowance, if that lasts for the node records that are not on the way
     pub walk-enough : (a b : ℕ) (from : Option ℕ) (n : ℕ) (ps : List ℕ) → Way c ks from n ps → length (c .nodes) ≤ a + length ps → length (c .nodes) ≤ b + length ps
-        → walk c ks r a from n ≡ walk c ks r b from n
+        → walk ks r a from n ≡ walk ks r b from n
     unfolding walk
     walk-enough zero b from n ps w ha hb = absurd (omega (arith, way-length from n ps w))
     walk-enough (suc a) zero from n ps w ha hb = absurd (omega (arith, way-length from n ps w))
     walk-enough (suc a) (suc b) from n ps w ha hb =
-        let arm : (k : Channel) → List·Memᴰ k ks → leads from n k ≡ true → walk c ks r a (some (k .number)) (farEnd n k) ≡ walk c ks r b (some (k .number)) (farEnd n k) =
+        let arm : (k : Channel) → List·Memᴰ k ks → leads from n k ≡ true → walk ks r a (some (k .number)) (farEnd n k) ≡ walk ks r b (some (k .number)) (farEnd n k) =
         λ k m e.
         ⊎-elim
-        (λ (d : isDriven c (farEnd n k) ≡ true). walk-driven c ks r a (some (k .number)) (farEnd n k) d ∙ sym (walk-driven c ks r b (some (k .number)) (farEnd n k) d))
-        (λ (d : isDriven c (farEnd n k) ≡ false).
-        walk-enough a b (some (k .number)) (farEnd n k) (n ∷ ps) (way-step from n ps w k m e (ap not d)) (omega arith) (omega arith))
-        (bool-cases (isDriven c (farEnd n k))) in
-        ap (cond (isDriven c n) (r .driven n))
+        (λ (d : r .ends (farEnd n k) ≡ true). walk-end ks r a (some (k .number)) (farEnd n k) d ∙ sym (walk-end ks r b (some (k .number)) (farEnd n k) d))
+        (λ (d : r .ends (farEnd n k) ≡ false).
+        walk-enough a b (some (k .number)) (farEnd n k) (n ∷ ps) (way-step from n ps w k m e (ap not (wide (farEnd n k) d))) (omega arith) (omega arith))
+        (bool-cases (r .ends (farEnd n k))) in
+        ap (cond (r .ends n) (r .driven n))
         (arms-same (leads from n)
-        (λ (v : A) (k : Channel). r .add v k (walk c ks r a (some (k .number)) (farEnd n k)))
-        (λ (v : A) (k : Channel). r .add v k (walk c ks r b (some (k .number)) (farEnd n k)))
+        (λ (v : A) (k : Channel). r .add v k (walk ks r a (some (k .number)) (farEnd n k)))
+        (λ (v : A) (k : Channel). r .add v k (walk ks r b (some (k .number)) (farEnd n k)))
         ks (λ k m e v. ap (r .add v k) (arm k m e)) (r .own n))
 
     -- from the node that a walk is for, one for each node record is enough
-    pub root-enough : (a : ℕ) (n : ℕ) → n < 2 + length (c .nodes) → length (c .nodes) ≤ a → walk c ks r a none n ≡ walk c ks r (length (c .nodes)) none n
+    pub root-enough : (a : ℕ) (n : ℕ) → n < 2 + length (c .nodes) → length (c .nodes) ≤ a → walk ks r a none n ≡ walk ks r (length (c .nodes)) none n
     root-enough a n i le =
         ⊎-elim
-        (λ (d : isDriven c n ≡ true). walk-driven c ks r a none n d ∙ sym (walk-driven c ks r (length (c .nodes)) none n d))
-        (λ (d : isDriven c n ≡ false).
-        walk-enough a (length (c .nodes)) none n [] (way-root n (ap not d) (inner-node c (length (c .nodes)) n (ap not d) i)) (omega arith) (omega arith))
-        (bool-cases (isDriven c n))
+        (λ (d : r .ends n ≡ true). walk-end ks r a none n d ∙ sym (walk-end ks r (length (c .nodes)) none n d))
+        (λ (d : r .ends n ≡ false).
+        let e : isInner c n ≡ true = ap not (wide n d) in
+        walk-enough a (length (c .nodes)) none n [] (way-root n e (inner-node c (length (c .nodes)) n e i)) (omega arith) (omega arith))
+        (bool-cases (r .ends n))
+
+-- a node where a delay walk goes on is inner
+pub not-end-inner : (sharing : Bool) (new : ℕ) (c : Circuit) (s : State) (n : ℕ) → isEnd sharing new c s n ≡ false → isDriven c n ≡ false
+not-end-inner sharing new c s n e = by (isDriven c n) e
+  where
+    by : (b : Bool) → (b || (sharing && eqb (valueAt s n) new)) ≡ false → b ≡ false
+    by true q = q
+    by false q = refl
 
 module _ (c : Circuit) (s : State) (h : AllLegal (length (c .nodes)) (c .transistors)) (a n : ℕ) (i : n < 2 + length (c .nodes)) (le : length (c .nodes) ≤ a) where
   -- a larger allowance changes no node sum
   pub allowance-enough : nodeSum a c s (kept c s) none n ≡ nodeSum (length (c .nodes)) c s (kept c s) none n
   allowance-enough =
       sum-walk c s (kept c s) a none n
-      ∙ root-enough c (kept c s) (kept-kept c s h) (sumRule c s) a n i le
+      ∙ root-enough c (kept c s) (kept-kept c s h) (sumRule c s) (λ m e. e) a n i le
       ∙ sym (sum-walk c s (kept c s) (length (c .nodes)) none n)
 
   -- and no delay
-  pub allowance-enough-load : (new : ℕ) → nodeLoad a new c s (kept c s) none n ≡ nodeLoad (length (c .nodes)) new c s (kept c s) none n
-  allowance-enough-load new =
-      load-walk new c s (kept c s) a none n
-      ∙ root-enough c (kept c s) (kept-kept c s h) (loadRule new c s) a n i le
-      ∙ sym (load-walk new c s (kept c s) (length (c .nodes)) none n)
+  pub allowance-enough-load : (sharing : Bool) (new : ℕ) → nodeLoad a sharing new c s (kept c s) none n ≡ nodeLoad (length (c .nodes)) sharing new c s (kept c s) none n
+  allowance-enough-load sharing new =
+      load-walk sharing new c s (kept c s) a none n
+      ∙ root-enough c (kept c s) (kept-kept c s h) (loadRule sharing new c s) (not-end-inner sharing new c s) a n i le
+      ∙ sym (load-walk sharing new c s (kept c s) (length (c .nodes)) none n)

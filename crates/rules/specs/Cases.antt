@@ -1,4 +1,4 @@
--- Document 01's ten worked cases as one table: what the definitions give beside what the paper says, both as lists of numbers.
+-- Document 01's ten worked cases, (d) as document 02's wish 6 extends it, as one table: what the definitions give beside what the paper says, both as lists of numbers.
 use Prim.Native.Nat.{ℕ, zero, suc, _+_, _*_}
 use Prim.Native.String.{String}
 use mathlib.Core.Path.{_≡_}
@@ -183,8 +183,8 @@ cases =
     ∷ row "b" (ohmsOf (parallel kiloohm kiloohm) ++ ohmsOf (parallel (parallel kiloohm kiloohm) kiloohm)) (500 ∷ 334 ∷ [])
     -- equal drive: low stays low (pattern 0), high stays high (pattern 1)
     ∷ row "c" (ofLegal equalDrive (λ c. newValues c 0 ++ newValues c 1)) (0 ∷ 1 ∷ [])
-    -- 30 fF high and 20 fF low: both are to be high
-    ∷ row "d" (ofLegal (twoCharges 0 (inner high 30) (inner low 20)) (λ c. newValues c 0)) (1 ∷ 1 ∷ [])
+    -- 30 fF high and 20 fF low: both are to be high, and over 1000 ohm the low one rises at 20 (document 02, wish 6)
+    ∷ row "d" (ofLegal (twoCharges 0 (inner high 30) (inner low 20)) (λ c. newValues c 0 ++ (changeAt (started c 0) 3 ∷ []))) (1 ∷ 1 ∷ 20 ∷ [])
     -- 20 fF and 20 fF at opposite values: each keeps its own, whichever is the high one
     ∷ row "e" (ofLegal (twoCharges 1 (inner (letter 0) 20) (inner (complement 0) 20)) (λ c. newValues c 0 ++ newValues c 1)) (0 ∷ 1 ∷ 1 ∷ 0 ∷ [])
     -- both nodes are to be low, and the output falls at 120

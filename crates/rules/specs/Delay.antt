@@ -1,9 +1,10 @@
--- Step rule 6: the delay walk.
+-- Step rule 6, as document 02's wish 6 amends it: the delay walk.
 use Prim.Native.Nat.{ℕ, zero, suc}
 use mathlib.Core.List.{List}
-use mathlib.Core.Bool.{cond}
+use mathlib.Core.Bool.{Bool, _||_, _&&_, cond}
 use mathlib.Core.Option.{Option, some, none}
 use lib.Dec.{eqb}
+use Rattle.units.specs.declared.Ohms.{Ohms}
 use Rattle.units.specs.declared.Femtofarads.{Femtofarads}
 use Rattle.units.specs.declared.Resistance.{Resistance}
 use Rattle.units.specs.declared.Resistance.the-variants.{Infinite, Finite}
@@ -40,14 +41,27 @@ joinLoads a b = record {
   charge = units.joined (a .charge) (b .charge);
 }
 
--- the same walk as the node sum's, for the new value
-unfoldable pub nodeLoad : ℕ → ℕ → Circuit → State → List Channel → Option ℕ → ℕ → Load
-nodeLoad zero new c s ks from n =
-    cond (isDriven c n) (drivenLoad new (valueAt s n)) (ownLoad new (nodeRecord c n .capacitance) (valueAt s n))
-nodeLoad (suc allowance) new c s ks from n =
-    cond (isDriven c n)
+-- where the walk ends: at a driven end; and in `sharing`, where neither side drives the node that the walk is for, at an inner node too
+-- that already holds the new value. It counts as a driven end at that value.
+abbrev pub isEnd : Bool → ℕ → Circuit → State → ℕ → Bool
+isEnd sharing new c s n = isDriven c n || (sharing && eqb (valueAt s n) new)
+
+-- the same walk as the node sum's, for the new value, but for its ends
+unfoldable pub nodeLoad : ℕ → Bool → ℕ → Circuit → State → List Channel → Option ℕ → ℕ → Load
+nodeLoad zero sharing new c s ks from n =
+    cond (isEnd sharing new c s n) (drivenLoad new (valueAt s n)) (ownLoad new (nodeRecord c n .capacitance) (valueAt s n))
+nodeLoad (suc allowance) sharing new c s ks from n =
+    cond (isEnd sharing new c s n)
     (drivenLoad new (valueAt s n))
     (overArms (leads from n)
-    (λ (load : Load) (k : Channel). joinLoads load (loadArm (k .transistor) (nodeLoad allowance new c s ks (some (k .number)) (farEnd n k))))
+    (λ (load : Load) (k : Channel). joinLoads load (loadArm (k .transistor) (nodeLoad allowance sharing new c s ks (some (k .number)) (farEnd n k))))
     (ownLoad new (nodeRecord c n .capacitance) (valueAt s n))
     ks)
+
+-- what stands for the ohms of an infinite resistance. No node that changes meets it (law `changing-finite`), so it is no rule of its own.
+abbrev pub noPath : Ohms
+noPath = ohms units.ceiling
+
+abbrev pub inOhms : Resistance → Ohms
+inOhms Infinite = noPath
+inOhms (Finite r) = r

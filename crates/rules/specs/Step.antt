@@ -1,7 +1,7 @@
 -- Step rules 5 to 7 together: the next change of a node; start and step for one pattern.
 use Prim.Native.Nat.{ℕ, _+_, min}
 use mathlib.Core.List.{List, map}
-use mathlib.Core.Bool.{cond}
+use mathlib.Core.Bool.{Bool, cond}
 use mathlib.Core.Option.{none}
 use lib.ListN.{length}
 use lib.Dec.{leb, eqb}
@@ -12,18 +12,22 @@ use Rattle.rules.specs.State.{State, valueAt, changeAt, isInner, nodeNum
 use Rattle.rules.specs.Arrive.{sourceAt, arrived}
 use Rattle.rules.specs.Group.{reconsidered}
 use Rattle.rules.specs.Kept.{Channel, kept}
-use Rattle.rules.specs.Sum.{nodeSum, newValue}
-use Rattle.rules.specs.Delay.{Load, nodeLoad}
+use Rattle.rules.specs.Sum.{nodeSum, undriven, newValue}
+use Rattle.rules.specs.Delay.{Load, nodeLoad, inOhms}
 
 -- rule 5 for node n, over the kept channels
 unfoldable pub target : Circuit → State → List Channel → ℕ → ℕ
 target c s ks n = newValue (nodeSum (length (c .nodes)) c s ks none n) (valueAt s n)
 
--- rule 6: the delay of node n to a new value
+-- rule 6: the delay of node n to a new value, by a walk that ends at holders of that value or only at driven ends
+unfoldable pub delayBy : Circuit → State → List Channel → Bool → ℕ → ℕ → ℕ
+delayBy c s ks sharing new n =
+    let load = nodeLoad (length (c .nodes)) sharing new c s ks none n in
+    units.delay (inOhms (load .resistance)) (load .charge) .0
+
+-- it ends at holders where neither side drives the node
 unfoldable pub delayTo : Circuit → State → List Channel → ℕ → ℕ → ℕ
-delayTo c s ks new n =
-    let load = nodeLoad (length (c .nodes)) new c s ks none n in
-    units.delay (load .resistance) (load .charge) .0
+delayTo c s ks new n = delayBy c s ks (undriven (nodeSum (length (c .nodes)) c s ks none n)) new n
 
 -- past the horizon a change is never
 abbrev pub inHorizon : Circuit → ℕ → ℕ

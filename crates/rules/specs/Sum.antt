@@ -100,9 +100,13 @@ less (Finite a) (Finite b) = ltb (a .0) (b .0)
 abbrev pub decided : Bool → Bool → ℕ → ℕ
 decided goesHigh goesLow present = cond goesHigh 1 (cond goesLow 0 present)
 
+-- Rules 5 and 6: neither side drives, so that charge decides
+abbrev pub undriven : Sum → Bool
+undriven sum = infinite (sum .high) && infinite (sum .low)
+
 -- Rule 5: the new value
 unfoldable pub newValue : Sum → ℕ → ℕ
 newValue sum present =
-    cond (infinite (sum .high) && infinite (sum .low))
+    cond (undriven sum)
     (decided (ltb (sum .lowCharge .0) (sum .highCharge .0)) (ltb (sum .highCharge .0) (sum .lowCharge .0)) present)
     (decided (less (sum .high) (sum .low)) (less (sum .low) (sum .high)) present)

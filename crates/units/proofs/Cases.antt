@@ -22,6 +22,6 @@ unfolding armSide
 case-ceiling = refl
 
 -- twelve transistors of 1,000,000 ohm in a row and twelve nodes of 65,535 fF: the delay does not fit 32 bits
-pub case-long-delay : (delay (Finite (ohms 12000000)) (femtofarads 786420) ≡ picoseconds 9437040000) × (2 ^ 32 < 9437040000)
+pub case-long-delay : (delay (ohms 12000000) (femtofarads 786420) ≡ picoseconds 9437040000) × (2 ^ 32 < 9437040000)
 unfolding delay ceilDiv
 case-long-delay = (refl, omega arith)

@@ -155,19 +155,17 @@ share-positive r Infinite c p h = h
 share-positive r (Finite far) c p h = ceilDiv-positive (omega arith) (mul-pos h p)
 
 -- a delay is at least 1
-pub delay-positive : (r : Resistance) (c : Femtofarads) → 1 ≤ delay r c .0
+pub delay-positive : (r : Ohms) (c : Femtofarads) → 1 ≤ delay r c .0
 unfolding delay
-delay-positive Infinite c = le-refl 1
-delay-positive (Finite r) c = omega arith
+delay-positive r c = omega arith
 
 -- a delay is at most the product, and 1 where that is 0
-pub delay-at-most : (r : Ohms) (c : Femtofarads) → delay (Finite r) c .0 ≤ max 1 (r .0 * c .0)
+pub delay-at-most : (r : Ohms) (c : Femtofarads) → delay r c .0 ≤ max 1 (r .0 * c .0)
 unfolding delay
 delay-at-most r c = omega (arith, ceilDiv-at-most {b = 1000} (omega arith) (r .0 * c .0))
 
 -- the delay of any ohms and femtofarads of 32 bits
-pub delay-within : (r : Resistance) (c : Femtofarads) → AtMost (2 ^ 32 - 1) r → c .0 < 2 ^ 32 → delay r c .0 < 2 ^ 55
+pub delay-within : (r : Ohms) (c : Femtofarads) → r .0 < 2 ^ 32 → c .0 < 2 ^ 32 → delay r c .0 < 2 ^ 55
 unfolding delay
-delay-within Infinite c p h = omega arith
-delay-within (Finite r) c p h =
+delay-within r c p h =
     omega (arith, ceilDiv-least {a = r .0 * c .0} {c = 2 ^ 55 - 1} 1000 (omega (arith, product-within {a = r .0} {b = c .0} (omega arith) h)))

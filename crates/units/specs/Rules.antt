@@ -44,14 +44,9 @@ unfoldable pub share : Ohms → Resistance → Femtofarads → Femtofarads
 share r Infinite c = c
 share r (Finite far) c = femtofarads (ceilDiv (c .0 * far .0) (far .0 + r .0))
 
--- Rule 6: the delay where nothing drives
-abbrev pub undrivenDelay : ℕ
-undrivenDelay = 1
-
 -- Rule 6: the delay of a node with resistance R and charge C
-unfoldable pub delay : Resistance → Femtofarads → Picoseconds
-delay Infinite c = picoseconds undrivenDelay
-delay (Finite r) c = picoseconds (max 1 (ceilDiv (r .0 * c .0) 1000))
+unfoldable pub delay : Ohms → Femtofarads → Picoseconds
+delay r c = picoseconds (max 1 (ceilDiv (r .0 * c .0) 1000))
 
 -- Rule 7: T and a delay after it
 abbrev pub later : Picoseconds → Picoseconds → Picoseconds

@@ -18,9 +18,6 @@ pub struct Femtofarads(pub u32);
 pub struct Picoseconds(pub u64);
 
 impl Picoseconds {
-    // The delay where nothing drives.
-    pub const UNDRIVEN: u64 = 1;
-
     // A time, and a delay after it.
     pub fn later(self, delay: Picoseconds) -> Picoseconds
         requires { ⌜ self .0 + delay .0 < 2 ^ 64 ⌝ }
@@ -101,20 +98,14 @@ pub fn share(r: Ohms, far: Resistance, charge: Femtofarads) -> Femtofarads
 }
 
 // The delay of a node of this resistance and charge.
-pub fn delay(r: Resistance, charge: Femtofarads) -> Picoseconds
+pub fn delay(r: Ohms, charge: Femtofarads) -> Picoseconds
     ensures { λ result. ⌜ result ≡ delayOf r charge ⌝ }
 {
-    match r {
-        Resistance::Infinite => Picoseconds(Picoseconds::UNDRIVEN),
-        Resistance::Finite(o) => {
-            let d = scaled(o.0, charge.0, 1000);
-            if 1 < d {
-                Picoseconds(d)
-            } else {
-                Picoseconds(1)
-            }
-        }
+    let d = scaled(r.0, charge.0, 1000);
+    if 1 < d {
+        return Picoseconds(d);
     }
+    Picoseconds(1)
 }
 
 // A number of ohms, brought down to the ceiling.

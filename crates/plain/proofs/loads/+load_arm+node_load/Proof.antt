@@ -10,7 +10,7 @@ use borrow.Fn.Kinds.{In}
 use borrow.Fn.PlainCycle.{Measures, is, falls, and}
 use Rattle.format.specs.Circuit.{nodeRecord}
 use Rattle.rules.specs.Delay.{drivenLoad, ownLoad, loadArm, joinLoads}
-use Rattle.rules.proofs.Walk.{load-driven, load-own}
+use Rattle.rules.proofs.Walk.{load-end, load-own, not-end-inner}
 use Rattle.net.specs.Net.{netTransistor, netCircuit, netArms}
 use Rattle.plain.specs.declared.Load.{Load}
 use Rattle.plain.specs.Leaf.{leafChannels, leafState, fromOf, leafLoad, loadOf}
@@ -28,7 +28,7 @@ use Rattle.plain.proofs.reads.arm_at.Reads as arm-at-reads
 use Rattle.plain.proofs.reads.degree_of.Reads as degree-of-reads
 use Rattle.plain.proofs.reads.far_end.Reads as far-end-reads
 use Rattle.plain.proofs.reads.is_arm.Reads as is-arm-reads
-use Rattle.plain.proofs.reads.is_driven.Reads as is-driven-reads
+use Rattle.plain.proofs.loads.is_end.Reads as is-end-reads
 use Rattle.plain.proofs.reads.read.Reads as read-reads
 use Rattle.plain.proofs.loads.before_load.Reads as before-reads
 use Rattle.plain.proofs.loads.driven_load.Reads as driven-reads
@@ -61,8 +61,8 @@ load-arm-calls t = (far-end-reads.Asked, far-end-reads.Learnt, node-load-below t
 
 abbrev node-load-calls : ℕ → node-load-lts.Claims
 node-load-calls t = (
-  is-driven-reads.Asked,
-  is-driven-reads.Learnt,
+  is-end-reads.Asked,
+  is-end-reads.Learnt,
   read-reads.Asked,
   read-reads.Learnt,
   driven-reads.Asked,
@@ -82,10 +82,10 @@ node-load-calls t = (
 )
 
 abbrev Inv-loop : node-load-lts.InvT-loop
-Inv-loop net leaf allowance new from n load₀ degree k₀ load k = LoadTurn net leaf allowance new from n k (loadOf load)
+Inv-loop net leaf allowance sharing new from n load₀ degree k₀ load k = LoadTurn net leaf allowance sharing new from n k (loadOf load)
 
 abbrev μ-loop : node-load-lts.MeasureT-loop
-μ-loop net leaf allowance new from n load₀ degree k₀ load k = degree - k
+μ-loop net leaf allowance sharing new from n load₀ degree k₀ load k = degree - k
 
 module _ (t : ℕ) where
   load-arm-far-end-requires : load-arm-lts.Need-far-end-requires (load-arm-calls t) (load-arm-at t) load-arm.Post
@@ -110,11 +110,11 @@ module _ (t : ℕ) where
       c .before-load .ensures
       ∙ ap (loadArm (netTransistor net i))
       (c .before .node-load .ensures
-      ∙ ap (λ (from : Option ℕ). leafLoad net leaf (start .args .allowance) (start .args .new) from (c .before .before .far-end .result)) (from-some i small)
-      ∙ ap (leafLoad net leaf (start .args .allowance) (start .args .new) (some i)) (c .before .before .far-end .ensures))
+      ∙ ap (λ (from : Option ℕ). leafLoad net leaf (start .args .allowance) (start .args .sharing) (start .args .new) from (c .before .before .far-end .result)) (from-some i small)
+      ∙ ap (leafLoad net leaf (start .args .allowance) (start .args .sharing) (start .args .new) (some i)) (c .before .before .far-end .ensures))
 
-  node-load-is-driven-requires : node-load-lts.Need-is-driven-requires (node-load-calls t) (node-load-at t) node-load.Post Inv-loop μ-loop
-  node-load-is-driven-requires c κs = let start = c .before .before in (start .pre .1 .0 .cell, start .pre .1 .1)
+  node-load-is-end-requires : node-load-lts.Need-is-end-requires (node-load-calls t) (node-load-at t) node-load.Post Inv-loop μ-loop
+  node-load-is-end-requires c κs = let start = c .before .before in start .pre .1
 
   node-load-read-requires : node-load-lts.Need-read-requires (node-load-calls t) (node-load-at t) node-load.Post Inv-loop μ-loop
   node-load-read-requires c κs =
@@ -130,15 +130,15 @@ module _ (t : ℕ) where
       let net = start .args .net .now in
       let leaf = start .args .leaf .now in
       let n = start .args .n in
-      let driven = sym (c .before .before .before .is-driven .ensures) ∙ c .before .before .if1 .taken in
+      let driven = sym (c .before .before .before .is-end .ensures) ∙ c .before .before .if1 .taken in
       c .driven-load .ensures
       ∙ ap (drivenLoad (start .args .new)) (c .before .read .ensures ∙ sym (value-here net leaf (start .pre .1 .0) n (start .pre .1 .1)))
-      ∙ sym (load-driven (netCircuit net) (leafState (netCircuit net) 0 leaf) (leafChannels (netCircuit net) leaf) (start .args .allowance) (start .args .new) (fromOf (start .args .from)) n driven)
+      ∙ sym (load-end (netCircuit net) (leafState (netCircuit net) 0 leaf) (leafChannels (netCircuit net) leaf) (start .args .sharing) (start .args .new) (start .args .allowance) (fromOf (start .args .from)) n driven)
 
   node-load-own-requires : node-load-lts.Need-own-load-requires (node-load-calls t) (node-load-at t) node-load.Post Inv-loop μ-loop
   node-load-own-requires c κs =
       let start = c .before .before .before .before in
-      (start .pre .1 .0, record { least = inner-least (start .args .net .now) (start .args .n) (sym (c .before .is-driven .ensures) ∙ c .if1 .left); most = start .pre .1 .1 })
+      (start .pre .1 .0, record { least = inner-least (start .args .net .now) (start .args .n) (not-end-inner (start .args .sharing) (start .args .new) (netCircuit (start .args .net .now)) (leafState (netCircuit (start .args .net .now)) 0 (start .args .leaf .now)) (start .args .n) (sym (c .before .is-end .ensures) ∙ c .if1 .left)); most = start .pre .1 .1 })
 
   node-load-returns-2 : node-load-lts.Need-returns-2 (node-load-calls t) (node-load-at t) node-load.Post Inv-loop μ-loop
   node-load-returns-2 c =
@@ -146,11 +146,11 @@ module _ (t : ℕ) where
       let net = start .args .net .now in
       let leaf = start .args .leaf .now in
       let n = start .args .n in
-      let inner = sym (c .before .before .before .is-driven .ensures) ∙ c .before .before .if1 .left in
+      let inner = sym (c .before .before .before .is-end .ensures) ∙ c .before .before .if1 .left in
       c .before .own-load .ensures
       ∙ ap (ownLoad (start .args .new) (nodeRecord (netCircuit net) n .capacitance)) (sym (value-here net leaf (start .pre .1 .0) n (start .pre .1 .1)))
-      ∙ sym (load-own (netCircuit net) (leafState (netCircuit net) 0 leaf) (leafChannels (netCircuit net) leaf) (start .args .new) (fromOf (start .args .from)) n inner)
-      ∙ ap (λ (a : ℕ). leafLoad net leaf a (start .args .new) (fromOf (start .args .from)) n) (sym (c .if2 .taken))
+      ∙ sym (load-own (netCircuit net) (leafState (netCircuit net) 0 leaf) (leafChannels (netCircuit net) leaf) (start .args .sharing) (start .args .new) (fromOf (start .args .from)) n inner)
+      ∙ ap (λ (a : ℕ). leafLoad net leaf a (start .args .sharing) (start .args .new) (fromOf (start .args .from)) n) (sym (c .if2 .taken))
 
   node-load-degree-of-requires : node-load-lts.Need-degree-of-requires (node-load-calls t) (node-load-at t) node-load.Post Inv-loop μ-loop
   node-load-degree-of-requires c κs = let start = c .before .before .before .before .before .before in (start .pre .1 .0 .cell, start .pre .1 .1)
@@ -160,11 +160,11 @@ module _ (t : ℕ) where
       let start = c .before .before .before .before .before .before .before in
       let net = start .args .net .now in
       let leaf = start .args .leaf .now in
-      let inner = sym (c .before .before .before .before .is-driven .ensures) ∙ c .before .before .before .if1 .left in
+      let inner = sym (c .before .before .before .before .is-end .ensures) ∙ c .before .before .before .if1 .left in
       let some-left : 1 ≤ start .args .allowance = omega (arith, c .before .if2 .left) in
-      subst (LoadTurn net leaf (start .args .allowance) (start .args .new) (start .args .from) (start .args .n) 0)
+      subst (LoadTurn net leaf (start .args .allowance) (start .args .sharing) (start .args .new) (start .args .from) (start .args .n) 0)
       (sym (c .before .before .own-load .ensures))
-      (load-starts net leaf (start .pre .1 .0) (start .args .allowance) (start .args .from) (start .args .n) some-left (start .pre .1 .1) (start .args .new) inner)
+      (load-starts net leaf (start .pre .1 .0) (start .args .allowance) (start .args .from) (start .args .n) some-left (start .pre .1 .1) (start .args .sharing) (start .args .new) inner)
 
   -- in a turn there is an arm left
   node-load-left : (c : node-load-lts.In-loop (node-load-calls t) (node-load-at t) node-load.Post Inv-loop μ-loop) → c .before .loop .k < length (netArms (c .before .before .before .before .before .before .before .before .before .args .net .now) (c .before .before .before .before .before .before .before .before .before .args .n))
@@ -192,18 +192,18 @@ module _ (t : ℕ) where
   node-load-goes : (c : node-load-lts.Then3 (node-load-calls t) (node-load-at t) node-load.Post Inv-loop μ-loop)
       → let start = c .before .before .before .before .before .before .before .before .before .before .before .before in
       let loop = c .before .before .before .before .loop in
-      let one = armLoad (start .args .net .now) (start .args .leaf .now) (start .args .allowance - 1) (start .args .new) (start .args .n) (c .before .before .arm-at .result) in
-      JoinableLoads (loadOf (loop .load)) one × LoadTurn (start .args .net .now) (start .args .leaf .now) (start .args .allowance) (start .args .new) (start .args .from) (start .args .n) (loop .k + 1) (joinLoads (loadOf (loop .load)) one)
+      let one = armLoad (start .args .net .now) (start .args .leaf .now) (start .args .allowance - 1) (start .args .sharing) (start .args .new) (start .args .n) (c .before .before .arm-at .result) in
+      JoinableLoads (loadOf (loop .load)) one × LoadTurn (start .args .net .now) (start .args .leaf .now) (start .args .allowance) (start .args .sharing) (start .args .new) (start .args .from) (start .args .n) (loop .k + 1) (joinLoads (loadOf (loop .load)) one)
   node-load-goes c =
       let start = c .before .before .before .before .before .before .before .before .before .before .before .before in
       let loop = c .before .before .before .before .loop in
       let some-left : 1 ≤ start .args .allowance = omega (arith, c .before .before .before .before .before .before .if2 .left) in (
         load-joins (start .args .net .now) (start .args .leaf .now) (start .pre .1 .0) (start .args .allowance) (start .args .from) (start .args .n) some-left (start .pre .1 .1)
             (loop .k) (c .before .before .arm-at .result) (c .before .is-arm .result) (node-load-left (c .before .before .before)) (c .before .before .arm-at .ensures .0) (c .before .before .arm-at .ensures .1)
-            (c .before .is-arm .ensures) (c .if3 .taken) (start .args .new) (loadOf (loop .load)) (loop .inv),
+            (c .before .is-arm .ensures) (c .if3 .taken) (start .args .sharing) (start .args .new) (loadOf (loop .load)) (loop .inv),
         load-turns (start .args .net .now) (start .args .leaf .now) (start .pre .1 .0) (start .args .allowance) (start .args .from) (start .args .n) some-left (start .pre .1 .1)
             (loop .k) (c .before .before .arm-at .result) (c .before .is-arm .result) (node-load-left (c .before .before .before)) (c .before .before .arm-at .ensures .0) (c .before .before .arm-at .ensures .1)
-            (c .before .is-arm .ensures) (c .if3 .taken) (start .args .new) (loadOf (loop .load)) (loop .inv),
+            (c .before .is-arm .ensures) (c .if3 .taken) (start .args .sharing) (start .args .new) (loadOf (loop .load)) (loop .inv),
       )
 
   node-load-join-requires : node-load-lts.Need-join-loads-requires (node-load-calls t) (node-load-at t) node-load.Post Inv-loop μ-loop
@@ -219,10 +219,10 @@ module _ (t : ℕ) where
   node-load-loop-again c =
       let start = c .before .before .before .before .before .before .before .before .before .before .before .before in
       let loop = c .before .before .before .before .loop in
-      let Goal : Load → Type 0 = λ v. LoadTurn (start .args .net .now) (start .args .leaf .now) (start .args .allowance) (start .args .new) (start .args .from) (start .args .n) (loop .k + 1) (loadOf v) in
+      let Goal : Load → Type 0 = λ v. LoadTurn (start .args .net .now) (start .args .leaf .now) (start .args .allowance) (start .args .sharing) (start .args .new) (start .args .from) (start .args .n) (loop .k + 1) (loadOf v) in
       ⊎-elim
       (λ w. subst Goal (sym (w .3))
-      (subst (LoadTurn (start .args .net .now) (start .args .leaf .now) (start .args .allowance) (start .args .new) (start .args .from) (start .args .n) (loop .k + 1))
+      (subst (LoadTurn (start .args .net .now) (start .args .leaf .now) (start .args .allowance) (start .args .sharing) (start .args .new) (start .args .from) (start .args .n) (loop .k + 1))
       (sym (w .2 .ensures ∙ ap (joinLoads (loadOf (loop .load))) (w .1 .ensures)))
       (node-load-goes (record { before = c .before; if3 = w .0 }) .1)))
       (λ w. subst Goal (sym (w .1)) (turn-passes (loop .inv) (node-load-left (c .before .before .before)) (c .before .before .arm-at .result) (c .before .before .arm-at .ensures .0) (c .before .is-arm .result) (c .before .is-arm .ensures) (w .0 .left)))
@@ -243,7 +243,7 @@ pub +load-arm+node-load-spec : {M : Type 1} → statement M
     node-load.Post
     Inv-loop
     μ-loop
-    (node-load-is-driven-requires t)
+    (node-load-is-end-requires t)
     (node-load-read-requires t)
     (node-load-driven-requires t)
     (node-load-returns t)
