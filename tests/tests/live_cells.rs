@@ -8,7 +8,7 @@ use comparison::random::Random;
 use comparison::simulator::arithmetic::{Ohms, CEILING};
 use comparison::simulator::circuit::Circuit;
 use comparison::simulator::pattern::State;
-use comparison::simulator::walk::Walk;
+use comparison::simulator::walk::{Ends, Walk};
 use std::collections::BTreeMap;
 
 /// How often each thing happened, at one node and moment of one pattern.
@@ -82,7 +82,7 @@ fn look(seen: &mut Seen, circuit: &Circuit, before: &State, after: &State, time:
 fn look_at(seen: &mut Seen, walk: &Walk, before: &State, after: &State, node: usize, time: u32) {
     let sum = walk.sum(node, None);
     let present = after.values[node];
-    let driven = (sum.high, sum.low) != (Ohms::Infinite, Ohms::Infinite);
+    let driven = sum.is_driven();
     seen.count("drive is equal", driven && sum.high == sum.low);
     let charged = sum.charge_high > 0 && sum.charge_low > 0;
     seen.count("charge decides", !driven && charged);
@@ -99,21 +99,37 @@ fn look_at(seen: &mut Seen, walk: &Walk, before: &State, after: &State, node: us
         seen.count("change called off", pending != NEVER);
         return;
     }
-    let load = walk.load(node, None, new);
-    let due = u64::from(time) + load.delay();
+    seen.count("flips again", flipped);
+    let due = u64::from(time) + look_at_delay(seen, walk, node, new);
     let horizon = u64::from(walk.circuit.cell.horizon);
-    seen.count("change by charge alone", load.resistance == Ohms::Infinite);
     seen.count("earlier change stays", u64::from(pending) < due);
     seen.count(
         "change made earlier",
         pending != NEVER && due < u64::from(pending),
     );
-    seen.count("flips again", flipped);
     seen.count("at the horizon", due == horizon);
     seen.count("past the horizon", due > horizon);
     seen.count("past 32 bits", due > u64::from(u32::MAX));
     let wrapped = due > u64::from(u32::MAX) && due as u32 <= walk.circuit.cell.horizon;
     seen.count("would wrap to a time", wrapped);
+}
+
+/// The delay of a node that is to take a new value.
+fn look_at_delay(seen: &mut Seen, walk: &Walk, node: usize, new: bool) -> u64 {
+    let ends = Ends::of(walk.sum(node, None));
+    let load = walk.load(node, None, new, ends);
+    let by_charge = ends == Ends::Holders;
+    seen.count(
+        "charge takes the least time",
+        by_charge && load.delay() == 1,
+    );
+    seen.count("charge takes longer", by_charge && load.delay() > 1);
+    let own = walk.circuit.capacitance(node).expect("an inner node");
+    let others = load.capacitance > own;
+    seen.count("charge turns other nodes too", by_charge && others);
+    let at_holders = walk.load(node, None, new, Ends::Holders);
+    seen.count("driven past a holder", load != at_holders);
+    load.delay()
 }
 
 #[test]

@@ -8,7 +8,8 @@ use comparison::refusal::Refusal;
 use comparison::simulator::arithmetic::{Load, Ohms, Sum, CEILING};
 use comparison::simulator::calls::{Call, Lent, ANSWER, NEXT, RECORD, TIME, USED, VALUES};
 use comparison::simulator::circuit::Circuit;
-use comparison::simulator::walk::Walk;
+use comparison::simulator::pattern::State;
+use comparison::simulator::walk::{Ends, Walk};
 
 fn input(start: Source) -> Node {
     let role = Role::Input;
@@ -148,7 +149,7 @@ fn series() {
         values: &values,
         kept: &kept,
     };
-    let load = walk.load(3, None, false);
+    let load = walk.load(3, None, false, Ends::Driven);
     let expected = Load {
         resistance: Ohms::Finite(2000),
         capacitance: 60,
@@ -163,6 +164,67 @@ fn series() {
 fn ask(file: &[u8], lent: &mut Lent, node: u32, pattern: u32) -> Result<(u32, u32), Refusal> {
     Call::Ask { node, pattern }.answer(file, lent)?;
     Ok((lent.answer[0], lent.answer[1]))
+}
+
+/// The next changes at the start of inner nodes with these capacitances and values,
+/// numbered from 2, and channels that conduct.
+fn changes(nodes: &[(u16, bool)], channels: &[([u8; 2], u32)]) -> Vec<u32> {
+    let source = |high| if high { Source::High } else { Source::Low };
+    let node = |&(capacitance, high)| inner(capacitance, source(high));
+    let nodes: Vec<Node> = nodes.iter().map(node).collect();
+    let channel = |&(ends, resistance)| n(1, ends, resistance);
+    let transistors: Vec<Transistor> = channels.iter().map(channel).collect();
+    let cell = cell(0, &nodes, &transistors, &[]);
+    State::start(&Circuit::new(&cell), 0).next.split_off(2)
+}
+
+/// Case (d), either way round, with the delay of document 02, wish 6; equal charges
+/// keep; the least delay, and rounding up.
+#[test]
+fn shared_charge() {
+    for (one, other, resistance, expected) in [
+        ((30, true), (20, false), 1000, [NEVER, 20]),
+        ((20, true), (30, false), 1500, [30, NEVER]),
+        ((20, true), (20, false), 1000, [NEVER, NEVER]),
+        ((2, true), (1, false), 1, [NEVER, 1]),
+        ((2, true), (1, false), 1000, [NEVER, 1]),
+        ((2, true), (1, false), 1001, [NEVER, 2]),
+    ] {
+        let changes = changes(&[one, other], &[([2, 3], resistance)]);
+        assert_eq!(changes, expected, "{one:?} and {other:?}");
+    }
+}
+
+/// Holders of the new value stand in parallel; what lies behind one is not seen; a
+/// node that has yet to change is no end, and its charge counts, also where its arm
+/// is infinite.
+#[test]
+fn holders_of_the_new_value() {
+    let (low, high) = ((40, false), (30, true));
+    let chain = [([2, 3], 1000), ([3, 4], 1000)];
+    let fork = [([2, 3], 1000), ([2, 4], 1000)];
+    assert_eq!(changes(&[low, high, high], &fork), [20, NEVER, NEVER]);
+    assert_eq!(changes(&[low, high, high], &chain), [40, NEVER, NEVER]);
+    assert_eq!(changes(&[low, (60, true)], &chain[..1]), [40, NEVER]);
+    let between = [(20, false), (10, false), (50, true)];
+    assert_eq!(changes(&between, &chain), [50, 30, NEVER]);
+}
+
+/// Where a side drives, beside a holder or behind it, a holder is no end.
+#[test]
+fn holders_in_a_driven_tree() {
+    let nodes = [(20, false), (50, true)];
+    let beside = [([1, 2], 2000), ([2, 3], 1000)];
+    assert_eq!(changes(&nodes, &beside), [40, NEVER]);
+    let behind = [([1, 3], 1000), ([2, 3], 1000)];
+    assert_eq!(changes(&nodes, &behind), [40, NEVER]);
+}
+
+/// There is no delay where nothing holds the new value.
+#[test]
+#[should_panic(expected = "nothing holds its new value")]
+fn no_holder() {
+    Load::inner(false, 1).delay();
 }
 
 /// A loop is broken at its last transistor, two parallel ones between inner nodes

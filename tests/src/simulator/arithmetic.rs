@@ -89,14 +89,19 @@ impl Sum {
         }
     }
 
+    /// A side drives the node; else charge decides.
+    pub fn is_driven(self) -> bool {
+        (self.high, self.low) != (Infinite, Infinite)
+    }
+
     /// Rule 5: the new value of a node.
     pub fn value(self, present: bool) -> bool {
-        let (one, zero) = match (self.high, self.low) {
-            (Infinite, Infinite) => (
+        let (one, zero) = match self.is_driven() {
+            true => (self.low > self.high, self.low < self.high),
+            false => (
                 self.charge_high > self.charge_low,
                 self.charge_high < self.charge_low,
             ),
-            (high, low) => (low > high, low < high),
         };
         one || present && !zero
     }
@@ -111,7 +116,7 @@ pub struct Load {
 }
 
 impl Load {
-    /// A rail or an input, which is at the new value or is not.
+    /// A driven end, which is at the new value or is not.
     pub fn driven(at_new: bool) -> Load {
         Load {
             resistance: if at_new { Finite(0) } else { Infinite },
@@ -147,10 +152,11 @@ impl Load {
         }
     }
 
-    /// The delay in ps.
+    /// The delay in ps. What makes a node change is a driven end of its walk, so that
+    /// its resistance is finite.
     pub fn delay(self) -> u64 {
         match self.resistance {
-            Infinite => 1,
+            Infinite => unreachable!("a node changes and nothing holds its new value: {self:?}"),
             Finite(ohms) => (ohms * self.capacitance).div_ceil(1000).max(1),
         }
     }

@@ -1,7 +1,7 @@
 //! One pattern: its start and its steps.
 
 use super::circuit::{Circuit, SUPPLY};
-use super::walk::Walk;
+use super::walk::{Ends, Walk};
 use crate::cell_file::FIRST_NODE;
 use crate::functions::NEVER;
 
@@ -85,11 +85,13 @@ impl State {
 /// Rules 4 to 7: the next change of a node whose group is touched.
 fn next_change(walk: &Walk, node: usize, pending: u32, time: u32) -> u32 {
     let present = walk.values[node];
-    let new = walk.sum(node, None).value(present);
+    let sum = walk.sum(node, None);
+    let new = sum.value(present);
     if new == present {
         return NEVER;
     }
-    let due = u64::from(time) + walk.load(node, None, new).delay();
+    let load = walk.load(node, None, new, Ends::of(sum));
+    let due = u64::from(time) + load.delay();
     let earlier = due.min(u64::from(pending));
     if earlier > u64::from(walk.circuit.cell.horizon) {
         NEVER

@@ -4,6 +4,26 @@
 use super::arithmetic::{Load, Sum};
 use super::circuit::Circuit;
 
+/// Where the walk of rule 6 ends.
+#[derive(Clone, Copy, Debug, PartialEq, Eq)]
+pub enum Ends {
+    /// At rails and inputs alone.
+    Driven,
+    /// Also at inner nodes that hold the new value, where neither side drives
+    /// (document 02, wish 6).
+    Holders,
+}
+
+impl Ends {
+    /// For a node with this sum.
+    pub fn of(sum: Sum) -> Ends {
+        match sum.is_driven() {
+            true => Ends::Driven,
+            false => Ends::Holders,
+        }
+    }
+}
+
 /// A cell at one moment of one pattern.
 #[derive(Clone, Copy, Debug)]
 pub struct Walk<'a> {
@@ -36,15 +56,17 @@ impl Walk<'_> {
     }
 
     /// The load of a node that is to take the value `new`.
-    pub fn load(&self, node: usize, by: Option<usize>, new: bool) -> Load {
+    pub fn load(&self, node: usize, by: Option<usize>, new: bool, ends: Ends) -> Load {
         let at_new = self.values[node] == new;
-        let Some(capacitance) = self.circuit.capacitance(node) else {
-            return Load::driven(at_new);
+        let capacitance = match self.circuit.capacitance(node) {
+            Some(capacitance) if ends == Ends::Driven || !at_new => capacitance,
+            _ => return Load::driven(at_new),
         };
         let own = Load::inner(at_new, capacitance);
         self.arms(node, by).fold(own, |load, (transistor, far)| {
             let resistance = self.circuit.resistance(transistor);
-            load.join(self.load(far, Some(transistor), new).arm(resistance))
+            let far = self.load(far, Some(transistor), new, ends);
+            load.join(far.arm(resistance))
         })
     }
 }
