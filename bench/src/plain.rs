@@ -202,6 +202,7 @@ impl Plain {
             plain: self,
             values,
             new: 0,
+            ends: 0,
             work,
         };
         for node in members(u64::from(nodes)) {
@@ -309,6 +310,10 @@ struct Walk<'a> {
     values: u32,
     /// The value that loads are worked out for.
     new: u32,
+    /// The nodes at which their walk ends: rails and inputs, and where charge decides
+    /// also those that hold the value. Charge decides for a whole kept tree, so that
+    /// an arm has one load for each value.
+    ends: u32,
     work: &'a mut Work,
 }
 
@@ -316,9 +321,10 @@ impl Walk<'_> {
     fn next_change<const REMEMBER: bool>(&mut self, node: usize, pending: u32, time: u32) -> u32 {
         let present = self.values >> node & 1;
         let sum = self.sum::<REMEMBER>(node, NONE);
-        let (for_high, for_low) = match (sum.high, sum.low) {
-            (INFINITE, INFINITE) => (sum.charge_high, sum.charge_low),
-            (high, low) => (low, high),
+        let by_charge = (sum.high, sum.low) == (INFINITE, INFINITE);
+        let (for_high, for_low) = match by_charge {
+            true => (sum.charge_high, sum.charge_low),
+            false => (sum.low, sum.high),
         };
         let new = match for_high.cmp(&for_low) {
             std::cmp::Ordering::Greater => 1,
@@ -329,11 +335,17 @@ impl Walk<'_> {
             return NEVER;
         }
         self.new = new;
-        let load = self.load::<REMEMBER>(node, NONE);
-        let delay = match load.resistance {
-            INFINITE => 1,
-            ohms => (ohms * load.capacitance).div_ceil(1000).max(1),
+        self.ends = match (by_charge, new) {
+            (false, _) => !self.plain.inner,
+            (true, 0) => !self.plain.inner | !self.values,
+            (true, _) => !self.plain.inner | self.values,
         };
+        let load = self.load::<REMEMBER>(node, NONE);
+        assert_ne!(
+            load.resistance, INFINITE,
+            "nothing holds node {node}'s new value"
+        );
+        let delay = (load.resistance * load.capacitance).div_ceil(1000).max(1);
         let due = (u64::from(time) + delay).min(u64::from(pending));
         match due <= u64::from(self.plain.horizon) {
             true => due as u32,
@@ -417,7 +429,7 @@ impl Walk<'_> {
     fn arm_load<const REMEMBER: bool>(&mut self, number: usize, near: usize) -> Load {
         let (far, side) = self.far(number, near);
         let r = self.plain.transistors[number].resistance;
-        if self.plain.inner >> far & 1 == 0 {
+        if self.ends >> far & 1 == 1 {
             let at_new = self.values >> far & 1 == self.new;
             return Load {
                 resistance: if at_new { r } else { INFINITE },
