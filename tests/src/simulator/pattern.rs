@@ -64,7 +64,7 @@ impl State {
     }
 
     /// Rules 3 to 7 for the nodes of touched groups.
-    fn consider(&mut self, circuit: &Circuit, time: u32, touched: &[bool]) {
+    pub fn consider(&mut self, circuit: &Circuit, time: u32, touched: &[bool]) {
         if !touched.contains(&true) {
             return;
         }
