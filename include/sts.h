@@ -451,6 +451,11 @@ uint32_t sts_count(uint32_t letters,
  * records. At a pattern each of them has a value, 0 or 1, and a next change: the
  * time in ps at which it will flip, or never.
  *
+ * How long a flip takes follows from the resistances and capacitances on its way
+ * from the rails and inputs. Where none of these drives a node and the larger
+ * charge turns it, the way begins at the nodes that already hold the new value. No
+ * flip takes less than 1 ps.
+ *
  * Values and next changes are functions of the letters and stand in a function
  * table. The caller keeps them beside it in a record, STS_RECORD_LENGTH numbers
  * that enum sts_record names:

@@ -29,9 +29,9 @@ use Rattle.rules.specs.State.{State, valueAt, changeAt, upFrom, nodeNumbers, is
 use Rattle.rules.specs.Arrive.{sourceAt, scheduled, flips, arrivedValue, arrivedChange, arrived, changed}
 use Rattle.rules.specs.Group.{Labels, joined, join, betweenInner, linkFrom, groups, inGroup, ofGroup, disturbed, some as someOf, touched, reconsidered}
 use Rattle.rules.specs.Kept.{Channel, conducts, keeps, afterKept, keptFrom, kept}
-use Rattle.rules.specs.Sum.{Sum, leads, farEnd, overArms, drivenSum, ownSum, armOf, joinSums, nodeSum, newValue}
-use Rattle.rules.specs.Delay.{Load, drivenLoad, ownLoad, loadArm, joinLoads, nodeLoad}
-use Rattle.rules.specs.Step.{target, delayTo, inHorizon, nextChange, stepped, initial, started}
+use Rattle.rules.specs.Sum.{Sum, leads, farEnd, overArms, drivenSum, ownSum, armOf, joinSums, nodeSum, undriven, newValue}
+use Rattle.rules.specs.Delay.{Load, drivenLoad, ownLoad, loadArm, joinLoads, nodeLoad, inOhms}
+use Rattle.rules.specs.Step.{target, delayBy, delayTo, inHorizon, nextChange, stepped, initial, started}
 use Rattle.rules.specs.Run.{soonest, patternTime}
 use Rattle.rules.proofs.State.{Numbered, numbers-same}
 use Rattle.rules.proofs.Arrive.{source-constant, source-letter, some-same, steppedChange, steppedFrom, stepped-from}
@@ -216,29 +216,32 @@ module _ {c d : Circuit} (e : Alike c d) where
       (ap (λ (f : Femtofarads). ownSum f (valueAt s n)) (e .capacitance-same n)))
 
   -- the same delay walks
-  pub load-alike : (allowance new : ℕ) (s : State) (ks : List Channel) (from : Option ℕ) (n : ℕ) → nodeLoad allowance new c s ks from n ≡ nodeLoad allowance new d s ks from n
+  pub load-alike : (allowance : ℕ) (sharing : Bool) (new : ℕ) (s : State) (ks : List Channel) (from : Option ℕ) (n : ℕ) → nodeLoad allowance sharing new c s ks from n ≡ nodeLoad allowance sharing new d s ks from n
   unfolding nodeLoad
-  load-alike zero new s ks from n =
-      ap₂ (λ (b : Bool) (f : Femtofarads). cond b (drivenLoad new (valueAt s n)) (ownLoad new f (valueAt s n))) (driven-alike n) (e .capacitance-same n)
-  load-alike (suc allowance) new s ks from n =
-      ap₂ (λ (b : Bool) (load : Load). cond b (drivenLoad new (valueAt s n)) load) (driven-alike n)
+  load-alike zero sharing new s ks from n =
+      ap₂ (λ (b : Bool) (f : Femtofarads). cond (b || (sharing && eqb (valueAt s n) new)) (drivenLoad new (valueAt s n)) (ownLoad new f (valueAt s n))) (driven-alike n) (e .capacitance-same n)
+  load-alike (suc allowance) sharing new s ks from n =
+      ap₂ (λ (b : Bool) (load : Load). cond (b || (sharing && eqb (valueAt s n) new)) (drivenLoad new (valueAt s n)) load) (driven-alike n)
       (over-same (leads from n) ks
-      (λ load k. ap (λ (far : Load). joinLoads load (loadArm (k .transistor) far)) (load-alike allowance new s ks (some (k .number)) (farEnd n k)))
+      (λ load k. ap (λ (far : Load). joinLoads load (loadArm (k .transistor) far)) (load-alike allowance sharing new s ks (some (k .number)) (farEnd n k)))
       (ap (λ (f : Femtofarads). ownLoad new f (valueAt s n)) (e .capacitance-same n)))
+
+  sum-here : (s : State) (ks : List Channel) (n : ℕ) → nodeSum (length (c .nodes)) c s ks none n ≡ nodeSum (length (d .nodes)) d s ks none n
+  sum-here s ks n = sum-alike (length (c .nodes)) s ks none n ∙ ap (λ (m : ℕ). nodeSum m d s ks none n) (e .count-same)
 
   -- the same new values
   pub target-alike : (s : State) (ks : List Channel) (n : ℕ) → target c s ks n ≡ target d s ks n
   unfolding target
-  target-alike s ks n =
-      ap (λ (sum : Sum). newValue sum (valueAt s n))
-      (sum-alike (length (c .nodes)) s ks none n ∙ ap (λ (m : ℕ). nodeSum m d s ks none n) (e .count-same))
+  target-alike s ks n = ap (λ (sum : Sum). newValue sum (valueAt s n)) (sum-here s ks n)
 
   -- the same delays
   pub delay-alike : (s : State) (ks : List Channel) (new n : ℕ) → delayTo c s ks new n ≡ delayTo d s ks new n
-  unfolding delayTo
+  unfolding delayTo delayBy
   delay-alike s ks new n =
-      ap (λ (load : Load). units.delay (load .resistance) (load .charge) .0)
-      (load-alike (length (c .nodes)) new s ks none n ∙ ap (λ (m : ℕ). nodeLoad m new d s ks none n) (e .count-same))
+      ap (λ (sum : Sum). delayBy c s ks (undriven sum) new n) (sum-here s ks n)
+      ∙ ap (λ (load : Load). units.delay (inOhms (load .resistance)) (load .charge) .0)
+      (load-alike (length (c .nodes)) (undriven (nodeSum (length (d .nodes)) d s ks none n)) new s ks none n
+      ∙ ap (λ (m : ℕ). nodeLoad m (undriven (nodeSum (length (d .nodes)) d s ks none n)) new d s ks none n) (e .count-same))
 
   -- the same next changes
   pub next-alike : (time : ℕ) (s : State) (ks : List Channel) (n : ℕ) → nextChange c time s ks n ≡ nextChange d time s ks n

@@ -80,7 +80,7 @@ module _ (c : Circuit) (cell : LegalCell c) (s : State) (numbers : List ℕ)
       let few : Limited c = legal-limited cell in
       record {
         sums = λ a n h. omega (arith, reach-root c (leafChannels c numbers) leaf-forest a n h, cell .limits .most-nodes, sum-reach c (leafState c 0 numbers) few (leafChannels c numbers) a none n);
-        loads = λ a new n h. omega (arith, reach-root c (leafChannels c numbers) leaf-forest a n h, cell .limits .most-nodes, load-reach c (leafState c 0 numbers) few (leafChannels c numbers) a none n new);
+        loads = λ a sharing new n h. omega (arith, reach-root c (leafChannels c numbers) leaf-forest a n h, cell .limits .most-nodes, load-reach c (leafState c 0 numbers) few (leafChannels c numbers) a none n sharing new);
       }
 
   -- numbers with the values of a state are calm

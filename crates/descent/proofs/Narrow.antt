@@ -20,10 +20,10 @@ use Rattle.diagram.proofs.Number.{number-terminal}
 use Rattle.rules.specs.State.{valueAt, isDriven}
 use Rattle.rules.specs.Kept.{Channel}
 use Rattle.rules.specs.Sum.{leads, farEnd, overArms, ownSum, nodeSum}
-use Rattle.rules.specs.Delay.{ownLoad, nodeLoad}
+use Rattle.rules.specs.Delay.{ownLoad, isEnd, nodeLoad}
 use Rattle.rules.specs.Step.{nextChange}
 use Rattle.rules.proofs.State.{Numbered}
-use Rattle.rules.proofs.Walk.{sum-driven, sum-own, sum-arms, load-driven, load-own, load-arms, leads-ends, ends-near}
+use Rattle.rules.proofs.Walk.{sum-driven, sum-own, sum-arms, load-end, load-own, load-arms, not-end-inner, leads-ends, ends-near}
 use Rattle.rules.proofs.Local.{touches, Shared, Local, sum-local, load-local, change-local}
 use Rattle.net.specs.Net.{nodesPlace, transistorsPlace, at, netTransistor, netCircuit, armsFrom, armsOf, netArms}
 use Rattle.plain.specs.Leaf.{isKept, leafState, leafChannels, netChannel}
@@ -197,7 +197,6 @@ module _ {net roots marks : List ℕ} {n : ℕ} (inner : Inner net n) (piece : P
       -- the two leaves are the same at the piece
       pub piece-local : Local c P (leafState c q A) (leafChannels c A) (leafState c q B) (leafChannels c B)
       piece-local = record {
-        inner = piece .inner;
         same = by-only P (isKept A) (isKept B) 0 (c .transistors) (λ j _ l e.
             let few = few-transistors j (omega arith) in
             let z : j - 0 ≡ j = omega arith in
@@ -288,9 +287,11 @@ module _ {net roots marks : List ℕ} {n : ℕ} (inner : Inner net n) (piece : P
         alone-sum zero e o = sum-own c (leafState c 0 B) (leafChannels c B) none m e
         alone-sum (suc a) e o = sum-arms c (leafState c 0 B) (leafChannels c B) a none m e ∙ arms-none (leads none m) _ _ (leafChannels c B) (narrow-away m e o)
 
-        alone-load : (a new : ℕ) → isDriven c m ≡ false → isIn marks m ≡ false → nodeLoad a new c (leafState c 0 B) (leafChannels c B) none m ≡ ownLoad new (nodeRecord c m .capacitance) (valueAt (leafState c 0 B) m)
-        alone-load zero new e o = load-own c (leafState c 0 B) (leafChannels c B) new none m e
-        alone-load (suc a) new e o = load-arms c (leafState c 0 B) (leafChannels c B) a new none m e ∙ arms-none (leads none m) _ _ (leafChannels c B) (narrow-away m e o)
+        alone-load : (a : ℕ) (sharing : Bool) (new : ℕ) → isEnd sharing new c (leafState c 0 B) m ≡ false → isIn marks m ≡ false → nodeLoad a sharing new c (leafState c 0 B) (leafChannels c B) none m ≡ ownLoad new (nodeRecord c m .capacitance) (valueAt (leafState c 0 B) m)
+        alone-load zero sharing new e o = load-own c (leafState c 0 B) (leafChannels c B) sharing new none m e
+        alone-load (suc a) sharing new e o =
+            load-arms c (leafState c 0 B) (leafChannels c B) sharing new a none m e
+            ∙ arms-none (leads none m) _ _ (leafChannels c B) (narrow-away m (not-end-inner sharing new c (leafState c 0 B) m e) o)
 
         sums : (a : ℕ) → nodeSum a c (leafState c 0 B) (leafChannels c B) none m .highCharge .0 + nodeSum a c (leafState c 0 B) (leafChannels c B) none m .lowCharge .0 < 2 ^ 31
         sums a =
@@ -303,16 +304,16 @@ module _ {net roots marks : List ℕ} {n : ℕ} (inner : Inner net n) (piece : P
             (bool-cases (isIn marks m)))
             (bool-cases (isDriven c m))
 
-        loads : (a new : ℕ) → nodeLoad a new c (leafState c 0 B) (leafChannels c B) none m .charge .0 < 2 ^ 31
-        loads a new =
+        loads : (a : ℕ) (sharing : Bool) (new : ℕ) → nodeLoad a sharing new c (leafState c 0 B) (leafChannels c B) none m .charge .0 < 2 ^ 31
+        loads a sharing new =
             ⊎-elim
-            (λ (d : isDriven c m ≡ true). rw (load-driven c (leafState c 0 B) (leafChannels c B) a new none m d) (omega arith))
-            (λ (d : isDriven c m ≡ false).
+            (λ (d : isEnd sharing new c (leafState c 0 B) m ≡ true). rw (load-end c (leafState c 0 B) (leafChannels c B) sharing new a none m d) (omega arith))
+            (λ (d : isEnd sharing new c (leafState c 0 B) m ≡ false).
             ⊎-elim
-            (λ (i : isIn marks m ≡ true). rw (← load-local (piece-local 0) a none m i new) (calm .charges .loads a new m h))
-            (λ (o : isIn marks m ≡ false). rw (alone-load a new d o) (own-load new (valueAt (leafState c 0 B) m) d))
+            (λ (i : isIn marks m ≡ true). rw (← load-local (piece-local 0) a none m i sharing new) (calm .charges .loads a sharing new m h))
+            (λ (o : isIn marks m ≡ false). rw (alone-load a sharing new d o) (own-load new (valueAt (leafState c 0 B) m) (not-end-inner sharing new c (leafState c 0 B) m d)))
             (bool-cases (isIn marks m)))
-            (bool-cases (isDriven c m))
+            (bool-cases (isEnd sharing new c (leafState c 0 B) m))
 
       first-of : (xs : List ℕ) (j : ℕ) → j < leafLength → getD (take leafLength xs) j 0 ≡ getD xs j 0
       first-of xs j h = getD-take leafLength xs j 0 h
@@ -332,7 +333,7 @@ module _ {net roots marks : List ℕ} {n : ℕ} (inner : Inner net n) (piece : P
               (λ (e : matters net marks m ≡ false). rw (lost-number m (omega arith) e) (omega arith))
               (bool-cases (matters net marks m)));
         };
-        charges = record { sums = λ a m h. sums m h a; loads = λ a new m h. loads m h a new };
+        charges = record { sums = λ a m h. sums m h a; loads = λ a sharing new m h. loads m h a sharing new };
       }
 
   -- the roots that matter are enough

@@ -6,7 +6,6 @@ use mathlib.Core.Bool.{Bool, true, false, not, cond}
 use Prim.Native.Nat.{ℕ, _-_, _<_}
 use native.Mathlib.Omega.{arith}
 use lib.ListN.{length, getD}
-use borrow.Author.Tests.{not-true}
 use Rattle.lists.proofs.Cases.{bool-cases, and-left, and-right, and-both}
 use Rattle.format.specs.declared.Transistor.{Transistor}
 use Rattle.format.specs.Circuit.{Circuit, noTransistor}
@@ -80,7 +79,6 @@ module _ (c : Circuit) (legal : AllLegal (length (c .nodes)) (c .transistors)) (
         let pass : (m : ℕ) → (inGroup c n m ≡ true) ⊎ (isDriven c m ≡ true) → Shared c (inGroup c n) s (leafState c q numbers) m =
         λ m. ⊎-elim (λ (i : inGroup c n m ≡ true). inl i) (λ (d : isDriven c m ≡ true). inr (d, all m)) in
         record {
-          inner = λ m e. not-true (isDriven c m) (and-left (isInner c m) (joined (groups c) n m) e);
           same =
               ap (only (touches (inGroup c n))) (kept-by c s)
               ∙ by-only (inGroup c n) (isOf (kept c s)) (isKept numbers) 0 (c .transistors)

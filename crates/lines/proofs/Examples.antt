@@ -55,19 +55,19 @@ pub inverter-start-full :
 unfolding opened decimal digitsWithin countBelow count cellLine refusedLine listing cellLines runLines stepsFrom linesOf
 inverter-start-full = refl
 
--- two charges joined
+-- two charges joined over 1000 ohm, from 5 to 30
 abbrev share : List ℕ
 share =
     3 ∷ 1 ∷ 2 ∷ 0 ∷ 50 ∷ 0 ∷ 0 ∷ 0 ∷ 1 ∷ 0 ∷ 4 ∷ 0 ∷ 5 ∷ 0 ∷ 0 ∷ 0
     ∷ 1 ∷ 0 ∷ 2 ∷ 0 ∷ 1 ∷ 0 ∷ 0 ∷ 0 ∷ 0 ∷ 0 ∷ 0 ∷ 0 ∷ 0 ∷ 0 ∷ 0 ∷ 0
     ∷ 1 ∷ 0 ∷ 3 ∷ 0 ∷ 0 ∷ 1 ∷ 30 ∷ 0 ∷ 0 ∷ 0 ∷ 0 ∷ 0 ∷ 0 ∷ 0 ∷ 0 ∷ 0
     ∷ 1 ∷ 0 ∷ 0 ∷ 0 ∷ 0 ∷ 0 ∷ 20 ∷ 0 ∷ 0 ∷ 0 ∷ 0 ∷ 0 ∷ 0 ∷ 0 ∷ 0 ∷ 0
-    ∷ 2 ∷ 0 ∷ 0 ∷ 0 ∷ 0 ∷ 2 ∷ 3 ∷ 4 ∷ 64 ∷ 66 ∷ 15 ∷ 0 ∷ 0 ∷ 0 ∷ 0 ∷ 0
+    ∷ 2 ∷ 0 ∷ 0 ∷ 0 ∷ 0 ∷ 2 ∷ 3 ∷ 4 ∷ 232 ∷ 3 ∷ 0 ∷ 0 ∷ 0 ∷ 0 ∷ 0 ∷ 0
     ∷ 3 ∷ 0 ∷ 6 ∷ 0 ∷ 2 ∷ 1 ∷ 0 ∷ 0 ∷ 5 ∷ 0 ∷ 0 ∷ 0 ∷ 0 ∷ 0 ∷ 0 ∷ 0
-    ∷ 3 ∷ 0 ∷ 0 ∷ 0 ∷ 2 ∷ 0 ∷ 0 ∷ 0 ∷ 7 ∷ 0 ∷ 0 ∷ 0 ∷ 0 ∷ 0 ∷ 0 ∷ 0
+    ∷ 3 ∷ 0 ∷ 0 ∷ 0 ∷ 2 ∷ 0 ∷ 0 ∷ 0 ∷ 30 ∷ 0 ∷ 0 ∷ 0 ∷ 0 ∷ 0 ∷ 0 ∷ 0
     ∷ []
 
--- charge alone decides
+-- charge alone decides, and moves 20 fF in 20 ps
 pub share-listed :
     listing share 4096
     ≡ 99 ∷ 101 ∷ 108 ∷ 108 ∷ 32 ∷ 51 ∷ 32 ∷ 49 ∷ 32 ∷ 50 ∷ 32 ∷ 48 ∷ 32 ∷ 53 ∷ 48 ∷ 10
@@ -75,9 +75,9 @@ pub share-listed :
     ∷ 48 ∷ 32 ∷ 51 ∷ 32 ∷ 49 ∷ 10
     ∷ 48 ∷ 32 ∷ 52 ∷ 32 ∷ 48 ∷ 10
     ∷ 53 ∷ 32 ∷ 50 ∷ 32 ∷ 49 ∷ 10
-    ∷ 54 ∷ 32 ∷ 52 ∷ 32 ∷ 49 ∷ 10
-    ∷ 55 ∷ 32 ∷ 50 ∷ 32 ∷ 48 ∷ 10
-    ∷ 101 ∷ 110 ∷ 100 ∷ 32 ∷ 55 ∷ 32 ∷ 51 ∷ 10
+    ∷ 50 ∷ 53 ∷ 32 ∷ 52 ∷ 32 ∷ 49 ∷ 10
+    ∷ 51 ∷ 48 ∷ 32 ∷ 50 ∷ 32 ∷ 48 ∷ 10
+    ∷ 101 ∷ 110 ∷ 100 ∷ 32 ∷ 51 ∷ 48 ∷ 32 ∷ 51 ∷ 10
     ∷ []
 unfolding opened decimal digitsWithin countBelow count cellLine refusedLine listing cellLines runLines stepsFrom linesOf
 share-listed = refl

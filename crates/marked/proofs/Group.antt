@@ -7,8 +7,7 @@ use Prim.Native.Nat.{ℕ, zero, suc, _-_, _≤_, _<_}
 use native.Mathlib.Omega.{arith}
 use lib.ListN.{length, getD, drop}
 use lib.Dec.{eqb}
-use borrow.Author.Tests.{not-true}
-use Rattle.lists.proofs.Cases.{and-left, and-both}
+use Rattle.lists.proofs.Cases.{and-both}
 use Rattle.format.specs.declared.Transistor.{Transistor}
 use Rattle.format.specs.Circuit.{Circuit, noTransistor}
 use Rattle.format.proofs.Legal.{LegalCell}
@@ -91,7 +90,6 @@ module _ (c : Circuit) (l : LegalCell c) (n : ℕ) where
         let pass : (m : ℕ) → valueAt s m ≡ valueAt z m → (inGroup c n m ≡ true) ⊎ (isDriven c m ≡ true) → Shared c (inGroup c n) s z m =
         λ m v. ⊎-elim (λ (i : inGroup c n m ≡ true). inl i) (λ (d : isDriven c m ≡ true). inr (d, v)) in
         record {
-          inner = λ m e. not-true (isDriven c m) (and-left (isInner c m) (joined (groups c) n m) e);
           same = channels-same;
           ends = λ k m e.
               let at : List·Memᴰ (k .transistor) (c .transistors) = kept-stems c s k m .listed in

@@ -6,7 +6,6 @@ use mathlib.Core.List.{List, [], _∷_}
 use Prim.Native.Nat.{ℕ, suc, _+_}
 use lib.ListN.{getD, drop}
 use lib.Seq.{getD-drop}
-use borrow.Author.Tests.{not-true}
 use Rattle.lists.proofs.Cases.{bool-cases}
 use Rattle.format.specs.declared.Transistor.{Transistor}
 use Rattle.format.specs.Circuit.{Circuit}
@@ -56,7 +55,6 @@ module _ (c : Circuit) where
         λ m. ⊎-elim (λ (d : isDriven c m ≡ true). inr (d, h m)) (λ (d : isDriven c m ≡ false). inl (ap not d)) (bool-cases (isDriven c m)) in
         let local : Local c (isInner c) s (kept c s) z (kept c z) =
         record {
-          inner = λ m. not-true (isDriven c m);
           same = ap (only (touches (isInner c))) kept-alike;
           ends = λ k _ _. (share (k .transistor .first), share (k .transistor .second));
           values = λ m _. h m;
