@@ -109,7 +109,15 @@ fn is_end(net: &[u32], leaf: &[u32], sharing: bool, new: u32, n: u32) -> bool
 }
 
 // The arm of transistor i at node n for the new value: the allowance is that of the far node.
-pub fn load_arm(net: &[u32], leaf: &[u32], allowance: u32, sharing: bool, new: u32, i: u32, n: u32) -> Load
+pub fn load_arm(
+    net: &[u32],
+    leaf: &[u32],
+    allowance: u32,
+    sharing: bool,
+    new: u32,
+    i: u32,
+    n: u32,
+) -> Load
     requires { ⌜ Ready (now net) (now leaf) ⌝ }
     requires { ⌜ i < getD (now net) transistorsPlace 0 ⌝ }
     ensures { λ r. ⌜ loadOf r ≡ loadArm (netTransistor (now (net .entry)) i) (leafLoad (now (net .entry)) (now (leaf .entry)) allowance sharing new (some i) (farEnd n (netChannel (now (net .entry)) i))) ⌝ }
@@ -120,7 +128,15 @@ pub fn load_arm(net: &[u32], leaf: &[u32], allowance: u32, sharing: bool, new: u
 }
 
 // What node n, reached by transistor `from` (64: by none), has for the new value.
-pub fn node_load(net: &[u32], leaf: &[u32], allowance: u32, sharing: bool, new: u32, from: u32, n: u32) -> Load
+pub fn node_load(
+    net: &[u32],
+    leaf: &[u32],
+    allowance: u32,
+    sharing: bool,
+    new: u32,
+    from: u32,
+    n: u32,
+) -> Load
     requires { ⌜ Ready (now net) (now leaf) ⌝ }
     requires { ⌜ n < 2 + getD (now net) nodesPlace 0 ⌝ }
     ensures { λ r. ⌜ loadOf r ≡ leafLoad (now (net .entry)) (now (leaf .entry)) allowance sharing new (fromOf from) n ⌝ }

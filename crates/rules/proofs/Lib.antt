@@ -17,4 +17,5 @@ pub mod Walk
 pub mod Range
 pub mod Local
 pub mod Sharing
+pub mod Behind
 pub mod Matrix

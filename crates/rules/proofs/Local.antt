@@ -14,7 +14,7 @@ use Rattle.format.specs.Circuit.{Circuit, nodeRecord}
 use Rattle.rules.specs.State.{State, valueAt, changeAt, isDriven}
 use Rattle.rules.specs.Kept.{Channel}
 use Rattle.rules.specs.Sum.{Sum, leads, farEnd, overArms, drivenSum, ownSum, nodeSum, undriven}
-use Rattle.rules.specs.Delay.{Load, drivenLoad, ownLoad, isEnd, nodeLoad, inOhms}
+use Rattle.rules.specs.Delay.{Load, drivenLoad, ownLoad, nodeLoad, inOhms}
 use Rattle.rules.specs.Step.{target, delayBy, delayTo, nextChange}
 use Rattle.rules.proofs.Walk.{Rule, walk, sumRule, loadRule, sum-walk, load-walk, walk-end, arms-same, Ends, leads-ends, ends-far}
 

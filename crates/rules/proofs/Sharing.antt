@@ -19,11 +19,11 @@ use Rattle.units.specs.Rules as units
 use Rattle.format.specs.Circuit.{Circuit, nodeRecord}
 use Rattle.rules.specs.State.{State, valueAt, isDriven}
 use Rattle.rules.specs.Kept.{Channel}
-use Rattle.rules.specs.Sum.{Sum, drivenSum, ownSum, nodeSum, infinite, less, decided, undriven, newValue}
+use Rattle.rules.specs.Sum.{Sum, drivenSum, ownSum, nodeSum, infinite, decided, undriven, newValue}
 use Rattle.rules.specs.Delay.{Load, isEnd, nodeLoad, inOhms}
 use Rattle.rules.specs.Step.{target, delayBy, delayTo}
 use Rattle.rules.proofs.State.{Shaped, Bits}
-use Rattle.rules.proofs.Walk.{Rule, walk, sumRule, loadRule, walk-within, walk-related, sum-walk, load-walk, not-end-inner}
+use Rattle.rules.proofs.Walk.{sumRule, loadRule, walk-within, walk-related, sum-walk, load-walk, not-end-inner}
 use Rattle.rules.proofs.Range.{passRule, passed, infinite-join, load-high, load-low, new-side}
 
 -- an inner node of a list that already holds a value

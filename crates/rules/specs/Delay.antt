@@ -2,7 +2,7 @@
 use Prim.Native.Nat.{ℕ, zero, suc}
 use mathlib.Core.List.{List}
 use mathlib.Core.Bool.{Bool, _||_, _&&_, cond}
-use mathlib.Core.Option.{Option, some, none}
+use mathlib.Core.Option.{Option, some}
 use lib.Dec.{eqb}
 use Rattle.units.specs.declared.Ohms.{Ohms}
 use Rattle.units.specs.declared.Femtofarads.{Femtofarads}
@@ -41,8 +41,8 @@ joinLoads a b = record {
   charge = units.joined (a .charge) (b .charge);
 }
 
--- where the walk ends: at a driven end; and in `sharing`, where neither side drives the node that the walk is for, at an inner node too
--- that already holds the new value. It counts as a driven end at that value.
+-- Where the walk ends: at a driven end. Where charge is shared (`sharing`: neither side drives the node that the walk is for), also at an inner
+-- node that already holds the new value: it counts as a driven end at that value.
 abbrev pub isEnd : Bool → ℕ → Circuit → State → ℕ → Bool
 isEnd sharing new c s n = isDriven c n || (sharing && eqb (valueAt s n) new)
 

@@ -13,7 +13,7 @@ use Rattle.rules.specs.Arrive.{sourceAt, arrived}
 use Rattle.rules.specs.Group.{reconsidered}
 use Rattle.rules.specs.Kept.{Channel, kept}
 use Rattle.rules.specs.Sum.{nodeSum, undriven, newValue}
-use Rattle.rules.specs.Delay.{Load, nodeLoad, inOhms}
+use Rattle.rules.specs.Delay.{nodeLoad, inOhms}
 
 -- rule 5 for node n, over the kept channels
 unfoldable pub target : Circuit → State → List Channel → ℕ → ℕ

@@ -1,5 +1,5 @@
 -- Laws of the arithmetic of step rules 4 to 6. Those of division rounded up stand in Rounding.
-use mathlib.Core.Path.{_≡_, refl, subst, subst₂}
+use mathlib.Core.Path.{_≡_, refl, ap, subst, subst₂}
 use Prim.Native.Nat.{ℕ, _+_, _*_, _-_, _^_, _≤_, _<_, max}
 use native.Mathlib.Nat.{add-comm, mul-comm, mul-pos, le-trans, le-refl}
 use native.Mathlib.Omega.{arith}
@@ -7,7 +7,8 @@ use Rattle.units.specs.declared.Ohms.{Ohms}
 use Rattle.units.specs.declared.Femtofarads.{Femtofarads}
 use Rattle.units.specs.declared.Resistance.{Resistance}
 use Rattle.units.specs.declared.Resistance.the-variants.{Infinite, Finite}
-use Rattle.units.specs.Rules.{ceiling, capped, parallel, armSide, share, delay}
+use Rattle.units.specs.Units.{ohms, femtofarads}
+use Rattle.units.specs.Rules.{ceilDiv, ceiling, capped, parallel, armSide, share, delay}
 use Rattle.units.specs.Range.{AtLeast, AtMost, Positive, InRange, Divisible}
 use Rattle.units.proofs.Rounding.{ceilDiv-least, ceilDiv-factor, ceilDiv-positive, ceilDiv-at-most, product-within}
 
@@ -55,6 +56,12 @@ unfolding parallel
 parallel-infinite-both Infinite b e = (refl, e)
 parallel-infinite-both (Finite a) Infinite e = absurd (finite-not-infinite e)
 parallel-infinite-both (Finite a) (Finite b) e = absurd (finite-not-infinite e)
+
+-- beside 0 ohms nothing counts
+pub parallel-zero-left : (b : Resistance) → parallel (Finite (ohms 0)) b ≡ Finite (ohms 0)
+unfolding parallel
+parallel-zero-left Infinite = refl
+parallel-zero-left (Finite b) = let z : ceilDiv (0 * b .0) (0 + b .0) ≡ 0 = omega (arith, ceilDiv-least {a = 0 * b .0} {c = 0} (0 + b .0) (omega arith)) in ap (λ (n : ℕ). Finite (ohms n)) z
 
 -- two in parallel may be exchanged
 pub parallel-comm : (a b : Resistance) → parallel a b ≡ parallel b a
@@ -141,6 +148,11 @@ armSide-in-range r side other h = record {
 pub share-infinite : (r : Ohms) (c : Femtofarads) → share r Infinite c ≡ c
 unfolding share
 share-infinite r c = refl
+
+-- none of it where the far node is at the value itself
+pub share-zero : (r : Ohms) (c : Femtofarads) → share r (Finite (ohms 0)) c ≡ femtofarads 0
+unfolding share
+share-zero r c = let z : ceilDiv (c .0 * 0) (0 + r .0) ≡ 0 = omega (arith, ceilDiv-least {a = c .0 * 0} {c = 0} (0 + r .0) (omega arith)) in ap femtofarads z
 
 -- no more than the charge is passed on
 pub share-at-most : (r : Ohms) (far : Resistance) (c : Femtofarads) → share r far c .0 ≤ c .0

@@ -3,7 +3,6 @@ use mathlib.Core.Path.{sym, _∙_, ap}
 use Prim.Native.Nat.{ℕ}
 use native.Mathlib.Omega.{arith}
 use lib.Dec.{eqb}
-use borrow.Author.Needs.{needs}
 use Rattle.plain.proofs.Walks.{value-here}
 use Rattle.plain.proofs.loads.is_end.Statement.{statement}
 use Rattle.plain.proofs.loads.is_end.Tie as tie
