@@ -16,7 +16,8 @@ use Rattle.diagram.specs.Table.{never}
 use Rattle.diagram.specs.Call.{columns}
 use Rattle.diagram.specs.Held.{mostEntries, held}
 use Rattle.diagram.proofs.Sound.{Sound}
-use Rattle.diagram.proofs.Add.{Extends, extends-refl, extends-trans}
+use Rattle.diagram.specs.Extends.{Extends}
+use Rattle.diagram.proofs.Add.{extends-refl, extends-trans}
 use Rattle.rules.specs.Run as defined
 use Rattle.rules.specs.Run.{Moment, timeAfter, stepMoment, continued, runSound}
 use Rattle.rules.specs.Call.{momentGiven}

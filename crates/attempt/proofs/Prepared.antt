@@ -27,7 +27,7 @@ use Rattle.rules.specs.Kept.{kept}
 use Rattle.rules.specs.Step.{nextChange}
 use Rattle.rules.proofs.State.{Numbered, Shaped}
 use Rattle.rules.proofs.Label.{all-legal}
-use Rattle.rules.proofs.Matrix as matrix
+use Rattle.rules.specs.Matrix as matrix
 use Rattle.net.specs.Net.{at, netCircuit, netGroup}
 use Rattle.net.proofs.Laying.{nodes-length, transistors-length}
 use Rattle.net.specs.Roots.{leafLength, touchedPlace, pendingPlace, rootsLength, allPendingPlace, changePlace}

@@ -13,7 +13,8 @@ use Rattle.diagram.specs.Pattern.{mostLetters, patterns}
 use Rattle.diagram.specs.Table.{Entry, Table, terminalLetter, terminal, branch, entryAt, numberFrom, numberAt}
 use Rattle.diagram.specs.Store.{Stored, add, join, find, store, fresh}
 use Rattle.diagram.proofs.Sound.{Sound}
-use Rattle.diagram.proofs.Add.{Extends, extends-refl, extends-trans, added, find-cases, add-found, add-missing}
+use Rattle.diagram.specs.Extends.{Extends}
+use Rattle.diagram.proofs.Add.{extends-refl, extends-trans, added, find-cases, add-found, add-missing}
 use Rattle.diagram.proofs.Number.{numberAt-extends, number-from, number-terminal}
 use Rattle.diagram.proofs.Store.{IsStored, store-stored, store-suc, store-zero, store-ext, store-ignores, join-same, join-differ, join-extends}
 use Rattle.diagram.proofs.Canonical.{canonical}

@@ -13,7 +13,7 @@ use Rattle.diagram.specs.Table.{Table}
 use Rattle.diagram.specs.Store.{stored, join, store}
 use Rattle.diagram.specs.Held.{held}
 use Rattle.diagram.proofs.Sound.{Sound}
-use Rattle.diagram.proofs.Add.{Extends}
+use Rattle.diagram.specs.Extends.{Extends}
 use Rattle.diagram.proofs.Number.{numberAt-extends}
 use Rattle.diagram.proofs.Store.{IsStored, store-stored, store-present, join-extends}
 use Rattle.table.specs.declared.Put.{Put}
@@ -23,7 +23,8 @@ use Rattle.table.specs.Holds.{Outcome}
 use Rattle.table.proofs.Outcomes.{put, holds-table, outcome-there}
 use Rattle.functions.specs.Open.{Open}
 use Rattle.functions.proofs.Carry.{legible-sound, open-next}
-use Rattle.descent.specs.Memo.{slots, memoLength, slotRoots, Means, Memo, Looked, Remembered}
+use Rattle.functions.specs.Known.{Means}
+use Rattle.descent.specs.Memo.{slots, memoLength, slotRoots, Memo, Looked, Remembered}
 
 module _ {F : List ℕ → ℕ → ℕ} {k : ℕ} where
   -- free slots say nothing
@@ -39,12 +40,12 @@ module _ {F : List ℕ → ℕ → ℕ} {k : ℕ} where
   memo-extends {t} {u} {memo} few s x m = record {
     long = m .long;
     is = λ i e h g.
-        let a : Means F k t (slotRoots memo i) e = m .is i e h g in
+        let a : Means k t e (F (slotRoots memo i)) = m .is i e h g in
         record { within = omega (arith, a .within, x .longer); number = λ p l. numberAt-extends e p few s x (a .within) ∙ a .number p l };
   }
 
   -- one slot more
-  pub memo-more : {t : Table} {memo out roots : List ℕ} {slot e : ℕ} → Memo F k t memo → Means F k t roots e → Remembered memo slot roots e out → Memo F k t out
+  pub memo-more : {t : Table} {memo out roots : List ℕ} {slot e : ℕ} → Memo F k t memo → Means k t e (F roots) → Remembered memo slot roots e out → Memo F k t out
   memo-more {t} {memo} {out} {roots} {slot} {e} m a r = record {
     long = r .long;
     is = λ s i h g.
@@ -71,7 +72,7 @@ module _ {k : ℕ} {l w h ix : List ℕ} {used : ℕ} (o : Open k l w h ix used)
   memo-hit {F} {memo} {roots} {slot} {r} m small f n =
       let e : ℕ = r - 1 in
       let one : r ≡ suc e = omega arith in
-      let a : Means F k t roots e = subst (λ (xs : List ℕ). Means F k t xs e) (f .key n) (m .is slot e small (sym (f .word n) ∙ one)) in
+      let a : Means k t e (F roots) = subst (λ (xs : List ℕ). Means k t e (F xs)) (f .key n) (m .is slot e small (sym (f .word n) ∙ one)) in
       rw (store-present k 0 (F roots) t e (o .legible .few) sound (add-zero k) (a .within) (omega arith) (a .number)) (outcome-there (o .holds) e)
 
   -- a function was stored
@@ -92,7 +93,7 @@ module _ {k : ℕ} {l w h ix : List ℕ} {used : ℕ} (o : Open k l w h ix used)
     after-small = omega (arith, o1 .entry room, is-stored .within, o1 .holds room .ready .fits, o1 .holds room .long, o1 .holds room .ready .sized .most)
 
     -- and has the function's numbers
-    pub after-means : (F : List ℕ → ℕ → ℕ) (roots : List ℕ) → ((x : ℕ) → x < patterns k → F roots x ≡ f x) → Means F k (held l1 w1 h1 (p .used)) roots (p .entry)
+    pub after-means : (F : List ℕ → ℕ → ℕ) (roots : List ℕ) → ((x : ℕ) → x < patterns k → F roots x ≡ f x) → Means k (held l1 w1 h1 (p .used)) (p .entry) (F roots)
     after-means F roots same =
         rw (holds-table (o1 .holds room), o1 .entry room)
         record { within = is-stored .within; number = λ x g. is-stored .number x g ∙ sym (same x g) }

@@ -3,8 +3,8 @@ use mathlib.Core.Path.{_≡_}
 use mathlib.Core.List.{List}
 use Prim.Native.Nat.{ℕ, suc, _+_, _*_, _<_, _≤_}
 use lib.ListN.{length, getD, take, drop}
-use Rattle.diagram.specs.Pattern.{patterns}
-use Rattle.diagram.specs.Table.{Table, numberAt}
+use Rattle.diagram.specs.Table.{Table}
+use Rattle.functions.specs.Known.{Means}
 use Rattle.net.specs.Roots.{rootsLength}
 
 -- a word for each slot, 0 where it is free, else its entry and one more; then the roots of each slot
@@ -18,15 +18,10 @@ memoLength = slots * (rootsLength + 1)
 abbrev pub slotRoots : List ℕ → ℕ → List ℕ
 slotRoots memo s = take rootsLength (drop (slots + rootsLength * s) memo)
 
--- entry e is what roots settle, by F, at every pattern
-pub record Means (F : List ℕ → ℕ → ℕ) (letters : ℕ) (t : Table) (roots : List ℕ) (e : ℕ) : Type 0 where
-  pub within : e < length t
-  pub number : (p : ℕ) → p < patterns letters → numberAt letters t e p ≡ F roots p
-
--- each slot is free, or its entry is what its roots settle
+-- each slot is free, or its entry is what its roots settle, by F, at every pattern
 pub record Memo (F : List ℕ → ℕ → ℕ) (letters : ℕ) (t : Table) (memo : List ℕ) : Type 0 where
   pub long : memoLength ≤ length memo
-  pub is : (s e : ℕ) → s < slots → getD memo s 0 ≡ suc e → Means F letters t (slotRoots memo s) e
+  pub is : (s e : ℕ) → s < slots → getD memo s 0 ≡ suc e → Means letters t e (F (slotRoots memo s))
 
 -- the word of a slot whose roots are these, or 0
 pub record Looked (memo : List ℕ) (slot : ℕ) (roots : List ℕ) (r : ℕ) : Type 0 where

@@ -10,13 +10,9 @@ use lib.Seq.{getD-append-seam, getD-take, ext-getD, length-take-le}
 use borrow.Author.Tests.{lt-ltb, le-ltb}
 use Rattle.lists.proofs.Cases.{bool-cases, lt-or-ge}
 use Rattle.diagram.specs.Table.{Entry, Table, blank, entryAt, same}
+use Rattle.diagram.specs.Extends.{Extends}
 use Rattle.diagram.specs.Store.{Stored, stored, find, add}
 use Rattle.diagram.proofs.Sound.{Branch, Legal, Sound, same-equal, equal-same}
-
--- the second table begins with the first
-pub record Extends (t u : Table) : Type 0 where
-  pub longer : length t ≤ length u
-  pub kept : (i : ℕ) → i < length t → entryAt u i ≡ entryAt t i
 
 -- a table extends itself
 pub extends-refl : (t : Table) → Extends t t

@@ -14,7 +14,7 @@ use Rattle.diagram.specs.Pattern.{mostLetters, patterns}
 use Rattle.diagram.specs.Table.{Table, numberAt}
 use Rattle.diagram.specs.Store.{Stored, stored, store}
 use Rattle.diagram.specs.Call.{Columns, lengthsLegal, columnsSound, tableOf, onTable, storeIn, columnsAfter, usedAfter}
-use Rattle.diagram.proofs.Add.{Extends}
+use Rattle.diagram.specs.Extends.{Extends}
 use Rattle.diagram.proofs.Number.{numberAt-extends}
 use Rattle.diagram.proofs.Store.{IsStored, store-stored, store-present}
 use Rattle.diagram.proofs.Columns.{Lengths, ColumnsSound, lengths-record, lengths-test, columns-record, columns-test, table-length, table-columns, columns-table, columns-sound, columns-lengths}

@@ -12,7 +12,7 @@ use Rattle.lists.proofs.Cases.{bool-cases, lt-or-ge, eq-or-ne}
 use Rattle.diagram.specs.Pattern.{mostLetters, letterAt}
 use Rattle.diagram.specs.Table.{Entry, Table, never, terminalLetter, entryAt, partOf, numberFrom, numberAt}
 use Rattle.diagram.proofs.Sound.{Branch, Sound}
-use Rattle.diagram.proofs.Add.{Extends}
+use Rattle.diagram.specs.Extends.{Extends}
 
 module _ (t : Table) (k e : ℕ) where
   -- a branch on the letter has its low part for 0

@@ -18,13 +18,14 @@ use Rattle.diagram.specs.Table.{Entry, Table, terminalLetter, terminal, 
 use Rattle.diagram.specs.Store.{Stored, stored, add, join, both, store}
 use Rattle.diagram.specs.Operation.{apply, applied, chosen, letterFixed, twoValued}
 use Rattle.diagram.proofs.Sound.{Branch, Sound}
-use Rattle.diagram.proofs.Add.{Extends}
+use Rattle.diagram.specs.Extends.{Extends}
 use Rattle.diagram.proofs.Number.{part-low, part-high, number-from, number-letter, number-terminal, numberAt-extends, part-within, part-larger}
 use Rattle.diagram.proofs.Store.{IsStored, store-stored, store-ext, store-step, store-skip, store-number, store-present}
 use Rattle.diagram.proofs.Pattern.{with-suc, with-other}
 use Rattle.diagram.proofs.Values.{number-with, number-part, values-branch}
 use Rattle.diagram.proofs.Calls.{two-valued-each, each-two-valued}
-use Rattle.diagram.proofs.Count.{countFrom, count-skip, count-step}
+use Rattle.diagram.specs.Counting.{countFrom}
+use Rattle.diagram.proofs.Count.{count-skip, count-step}
 
 -- the letters below k do not matter to a function
 abbrev pub Ignores : ℕ → (ℕ → ℕ) → Type 0

@@ -11,7 +11,8 @@ use Rattle.diagram.specs.Pattern.{mostLetters}
 use Rattle.diagram.specs.Table.{Entry, Table, terminalLetter, terminal, branch, entryAt, partOf, numberFrom}
 use Rattle.diagram.specs.Store.{Stored, stored, add, join, both, store}
 use Rattle.diagram.proofs.Sound.{Branch, Legal, Sound, entry-path, past-terminal}
-use Rattle.diagram.proofs.Add.{Extends, extends-refl, extends-trans, Added, added, add-present, add-again, add-sound}
+use Rattle.diagram.specs.Extends.{Extends}
+use Rattle.diagram.proofs.Add.{extends-refl, extends-trans, Added, added, add-present, add-again, add-sound}
 use Rattle.diagram.proofs.Number.{part-low, part-high, part-self, part-later, part-within, part-larger, number-end, number-extends, number-halves, number-low, number-high}
 
 -- a terminal may always be added

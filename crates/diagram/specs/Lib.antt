@@ -1,7 +1,9 @@
 pub mod Pattern
 pub mod Table
+pub mod Extends
 pub mod Sound
 pub mod Store
 pub mod Operation
+pub mod Counting
 pub mod Held
 pub mod Call

@@ -15,7 +15,7 @@ use Rattle.diagram.specs.Table.{Table, terminalLetter, branch, entryAt, numberA
 use Rattle.diagram.specs.Store.{add, store}
 use Rattle.diagram.specs.Held.{held}
 use Rattle.diagram.proofs.Sound.{Sound}
-use Rattle.diagram.proofs.Add.{Extends}
+use Rattle.diagram.specs.Extends.{Extends}
 use Rattle.diagram.proofs.Number.{number-zeroth, number-first, number-terminal, numberAt-extends}
 use Rattle.diagram.proofs.Store.{store-number}
 use Rattle.diagram.proofs.Shannon.{numbers-at}

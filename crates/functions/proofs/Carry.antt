@@ -15,7 +15,8 @@ use Rattle.diagram.specs.Store.{Stored, stored, add, join, both, store}
 use Rattle.diagram.specs.Call.{columns, lengthsLegal}
 use Rattle.diagram.specs.Held.{entries, held, heldSound}
 use Rattle.diagram.proofs.Sound.{Branch, Sound, sound-record, sound-test}
-use Rattle.diagram.proofs.Add.{Extends, extends-trans, added}
+use Rattle.diagram.specs.Extends.{Extends}
+use Rattle.diagram.proofs.Add.{extends-trans, added}
 use Rattle.diagram.proofs.Number.{part-low, part-high, part-self, part-within, part-larger}
 use Rattle.diagram.proofs.Store.{IsStored, store-stored, join-same, join-differ, join-extends}
 use Rattle.diagram.proofs.Columns.{Lengths, lengths-record}

@@ -7,7 +7,7 @@ use Rattle.diagram.specs.Table.{Table}
 use Rattle.diagram.specs.Store.{Stored, stored, join, both, store}
 use Rattle.diagram.specs.Held.{held}
 use Rattle.diagram.proofs.Sound.{Sound}
-use Rattle.diagram.proofs.Add.{Extends}
+use Rattle.diagram.specs.Extends.{Extends}
 use Rattle.diagram.proofs.Store.{IsStored}
 use Rattle.table.specs.declared.Put.{Put}
 use Rattle.table.specs.Stop.{stopped}

@@ -11,10 +11,10 @@ use Rattle.diagram.specs.Table.{Table}
 use Rattle.diagram.specs.Store.{stored, join, store}
 use Rattle.diagram.specs.Held.{held}
 use Rattle.diagram.proofs.Sound.{Sound}
-use Rattle.diagram.proofs.Add.{Extends}
+use Rattle.diagram.specs.Extends.{Extends}
 use Rattle.diagram.proofs.Number.{numberAt-extends}
 use Rattle.diagram.proofs.Store.{IsStored, store-stored, store-present, join-extends}
-use Rattle.cache.specs.Cache.{slotPlace, Cache, Looked, Kept}
+use Rattle.cache.specs.Cache.{slotPlace, Looked, Kept}
 use Rattle.cache.proofs.Results.{cache-none, cache-map, cache-found, cache-kept}
 use Rattle.table.specs.declared.Put.{Put}
 use Rattle.table.specs.declared.Stop.the-variants.{Going}

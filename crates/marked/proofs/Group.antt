@@ -12,7 +12,7 @@ use Rattle.format.specs.declared.Transistor.{Transistor}
 use Rattle.format.specs.Circuit.{Circuit, noTransistor}
 use Rattle.format.proofs.Legal.{LegalCell}
 use Rattle.rules.specs.State.{State, valueAt, changeAt, isDriven, isInner}
-use Rattle.rules.specs.Group.{joined, betweenInner, groups, inGroup, ofGroup, disturbed, some, touched}
+use Rattle.rules.specs.Group.{joined, betweenInner, groups, inGroup, ofGroup, disturbed, touched}
 use Rattle.rules.specs.Kept.{conducts, kept}
 use Rattle.rules.specs.Step.{nextChange}
 use Rattle.rules.proofs.State.{Numbered}
@@ -20,7 +20,8 @@ use Rattle.rules.proofs.Arrive.{some-same}
 use Rattle.rules.proofs.Label.{all-legal, joined-refl}
 use Rattle.rules.proofs.Forest.{kept-stems}
 use Rattle.rules.proofs.Local.{only, touches, Shared, Local, change-local}
-use Rattle.rules.proofs.Matrix.{isKept, transistorAt, Matrix, linked, matrixAt, isHeld, at-member, group-kept}
+use Rattle.rules.specs.Matrix.{isKept, transistorAt, Matrix, linked, matrixAt, isHeld}
+use Rattle.rules.proofs.Matrix.{at-member, group-kept}
 use Rattle.descent.specs.Settle.{isOf}
 use Rattle.descent.proofs.Channels.{by-only, kept-by, leaf-change}
 use Rattle.descent.proofs.Settled.{group-ends}

@@ -9,21 +9,17 @@ use table::Put;
 use table::Stop;
 use table::stopped;
 use values::Many;
-ghost use mathlib.Core.List.{map};
 ghost use Prim.Native.Nat.{suc, _<_};
 ghost use Rattle.diagram.specs.Store.{store};
 ghost use Rattle.diagram.specs.Held.{held};
 ghost use Rattle.table.specs.Holds.{Outcome};
 ghost use Rattle.functions.specs.Open.{Open};
-ghost use Rattle.rules.specs.State.{nodeNumbers};
-ghost use Rattle.rules.specs.Run.{storeAll};
 ghost use Rattle.net.specs.Net.{lettersPlace, at as atPlace, netCircuit};
 ghost use Rattle.plain.specs.Ready.{Noded};
 ghost use Rattle.record.specs.Leasts.{Leasts};
-ghost use Rattle.values.specs.All.{OutcomeAll};
 ghost use Rattle.stir.specs.Pending.{PendingEntries, PendingLeasts};
 ghost use Rattle.marked.specs.ByRoots.{settledFor, StepRoots};
-ghost use Rattle.marked.specs.Mixed.{mixedWith, mixedOf};
+ghost use Rattle.marked.specs.Mixed.{mixedWith, MixedAll};
 
 // The next change of node n. The descent's memo lies in `memo`, which may hold anything.
 fn by_roots(
@@ -138,7 +134,7 @@ pub fn all_by_marks(
     memo: &mut [u32],
 ) -> Many
     requires { ⌜ StepRoots (now net) (now wletter) (now wlow) (now whigh) wused roots × Open (atPlace (now net) lettersPlace) (now letter) (now low) (now high) (now index) used × PendingEntries used pending × PendingLeasts (atPlace (now net) lettersPlace) (held (now letter) (now low) (now high) used) pending (now least) ⌝ }
-    ensures { λ r. ⌜ OutcomeAll (held (now (letter .entry)) (now (low .entry)) (now (high .entry)) used) (storeAll (atPlace (now (net .entry)) lettersPlace) (map (mixedOf (netCircuit (now (net .entry))) time (atPlace (now (net .entry)) lettersPlace) (held (now (letter .entry)) (now (low .entry)) (now (high .entry)) used) (held (now (wletter .entry)) (now (wlow .entry)) (now (whigh .entry)) wused) roots marks pending) (nodeNumbers (netCircuit (now (net .entry))))) (held (now (letter .entry)) (now (low .entry)) (now (high .entry)) used)) (now (letter .exit)) (now (low .exit)) (now (high .exit)) (now (index .exit)) (r .stop) (r .used) (r .entries) ⌝ }
+    ensures { λ r. ⌜ MixedAll (now (net .entry)) time (held (now (wletter .entry)) (now (wlow .entry)) (now (whigh .entry)) wused) roots marks pending used (now (letter .entry)) (now (low .entry)) (now (high .entry)) (now (letter .exit)) (now (low .exit)) (now (high .exit)) (now (index .exit)) r ⌝ }
 {
     let count = net[net::NODES] as usize;
     let mut out = [0u32; 24];

@@ -16,7 +16,7 @@ use Rattle.diagram.specs.Pattern.{mostLetters, patterns}
 use Rattle.diagram.specs.Table.{Table, numberAt}
 use Rattle.diagram.specs.Held.{held}
 use Rattle.diagram.proofs.Sound.{Sound}
-use Rattle.diagram.proofs.Add.{Extends}
+use Rattle.diagram.specs.Extends.{Extends}
 use Rattle.table.specs.declared.Stop.{Stop}
 use Rattle.table.specs.Stop.{stopped, fullIf}
 use Rattle.table.proofs.Stops.{stop-more}

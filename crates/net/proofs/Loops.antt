@@ -1,22 +1,22 @@
 -- A transistor that closes no loop of channels is kept wherever it conducts: what kept ones have joined, channels have linked.
 use mathlib.Core.Path.{_≡_, refl, sym, _∙_, ap, subst}
 use mathlib.Core.Logic.{⊎-elim, inl, inr}
-use mathlib.Core.List.{List}
-use mathlib.Core.Bool.{Bool, true, false, not, _&&_, cond, and-true}
-use Prim.Native.Nat.{ℕ, zero, suc, _+_, _≤_, _<_}
+use mathlib.Core.Bool.{Bool, true, false, _&&_, cond, and-true}
+use Prim.Native.Nat.{ℕ, zero, suc, _≤_, _<_}
 use native.Mathlib.Omega.{arith}
 use native.Mathlib.Numerals.{add-one}
-use lib.ListN.{length, getD}
-use Rattle.lists.proofs.Cases.{bool-cases, and-left, and-right, and-both, true-false}
+use lib.ListN.{length}
+use Rattle.lists.proofs.Cases.{bool-cases, and-both, true-false}
 use Rattle.format.specs.declared.Transistor.{Transistor}
-use Rattle.format.specs.Circuit.{Circuit, noTransistor}
+use Rattle.format.specs.Circuit.{Circuit}
 use Rattle.format.proofs.Legal.{LegalTransistor, LegalCell}
-use Rattle.rules.specs.State.{State, nodeNumbers}
+use Rattle.rules.specs.State.{State}
 use Rattle.rules.specs.Group.{Labels, joined, join, betweenInner}
 use Rattle.rules.specs.Kept.{conducts, keeps, afterKept}
 use Rattle.rules.proofs.State.{up-length}
 use Rattle.rules.proofs.Label.{IsNode, Joined, Through, join-exactly, ends-inner, length-join}
-use Rattle.rules.proofs.Matrix.{isKept, transistorAt, labelsFrom, labelsAt, kept-by-labels}
+use Rattle.rules.specs.Matrix.{isKept, transistorAt}
+use Rattle.rules.proofs.Matrix.{labelsFrom, labelsAt, kept-by-labels}
 use Rattle.net.specs.Loop.{linkedTo, closes}
 use Rattle.net.proofs.Joins.{linked-first, linked-more, length-linked}
 

@@ -15,7 +15,8 @@ use Rattle.format.proofs.Legal.{LegalCell}
 use Rattle.diagram.specs.Pattern.{patterns}
 use Rattle.diagram.specs.Table.{Table, numberAt}
 use Rattle.diagram.specs.Held.{held}
-use Rattle.diagram.proofs.Add.{Extends, extends-trans}
+use Rattle.diagram.specs.Extends.{Extends}
+use Rattle.diagram.proofs.Add.{extends-trans}
 use Rattle.working.specs.Grown.{bit}
 use Rattle.working.specs.Many.{Filled}
 use Rattle.working.proofs.Grow.{open-three, open-few, open-sound}
@@ -27,7 +28,8 @@ use Rattle.rules.specs.Group.{labelAt, joined, betweenInner, groups, inGroup, o
 use Rattle.rules.specs.Kept.{conducts}
 use Rattle.rules.proofs.Arrive.{some-same}
 use Rattle.rules.proofs.Label.{joined-refl}
-use Rattle.rules.proofs.Matrix.{isKept, isHeld, transistorAt, kept-by-labels, LookedAt, group-kept}
+use Rattle.rules.specs.Matrix.{isKept, isHeld, transistorAt}
+use Rattle.rules.proofs.Matrix.{kept-by-labels, LookedAt, group-kept}
 use Rattle.net.specs.Net.{at, netCircuit, netGroup}
 use Rattle.net.specs.Laid.{Laid}
 use Rattle.net.proofs.Laying.{nodes-length, transistors-length}

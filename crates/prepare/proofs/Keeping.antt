@@ -30,11 +30,10 @@ use Rattle.working.proofs.Fill.{up-other, number-kept, means-own, means-zero, m
 use Rattle.working.proofs.Linking.{linked-bits, linked-none}
 use Rattle.rules.specs.State.{State, valueAt, isInner}
 use Rattle.rules.specs.Group.{betweenInner}
-use Rattle.rules.specs.Kept.{conducts}
-use Rattle.rules.proofs.Matrix.{transistorAt, linked, holds, isHeld, matrixAt}
+use Rattle.rules.specs.Matrix.{transistorAt, linked, holds, isHeld, matrixAt}
 use Rattle.net.specs.Net.{at, netTransistor, netCircuit}
 use Rattle.net.specs.Laid.{Laid}
-use Rattle.prepare.specs.Steps.{Shows, Bits, one, groupOf, conductsNumber, keptNumber, lookedAt, Keeping, KeptLooped}
+use Rattle.prepare.specs.Steps.{Shows, Bits, groupOf, conductsNumber, keptNumber, lookedAt, Keeping, KeptLooped}
 use Rattle.prepare.proofs.Reading.{laid-between, laid-by-first, laid-by-second, laid-no-group}
 
 -- a p or an n, in bits

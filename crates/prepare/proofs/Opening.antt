@@ -15,7 +15,8 @@ use Rattle.format.specs.Circuit.{Circuit}
 use Rattle.diagram.specs.Pattern.{patterns}
 use Rattle.diagram.specs.Table.{Table, numberAt}
 use Rattle.diagram.specs.Held.{held}
-use Rattle.diagram.proofs.Add.{Extends, extends-refl, extends-trans}
+use Rattle.diagram.specs.Extends.{Extends}
+use Rattle.diagram.proofs.Add.{extends-refl, extends-trans}
 use Rattle.table.specs.declared.Put.{Put}
 use Rattle.table.specs.declared.Stop.the-variants.{Going as NotStopped}
 use Rattle.table.specs.Stop.{stopped}
@@ -23,10 +24,10 @@ use Rattle.functions.specs.Open.{Open}
 use Rattle.working.specs.Grown.{bit, Grown}
 use Rattle.working.specs.Many.{AllUsed}
 use Rattle.working.proofs.Grow.{grown-same, grown-there, grown-number, grown-within, grown-entry}
-use Rattle.working.proofs.Fill.{number-kept, means-zero, used-kept}
+use Rattle.working.proofs.Fill.{number-kept, means-zero}
 use Rattle.rules.specs.State.{State, valueAt}
 use Rattle.rules.specs.Kept.{conducts}
-use Rattle.rules.proofs.Matrix.{transistorAt}
+use Rattle.rules.specs.Matrix.{transistorAt}
 use Rattle.prepare.specs.Steps.{Shows, Bits, groupOf, conductsNumber, openNumber, isOpen, KeptLooped, KeptRest, KeptAll}
 use Rattle.prepare.proofs.Keeping.{conducts-bit, Legal}
 

@@ -17,7 +17,8 @@ use Rattle.rules.specs.State.{nodeNumbers, isInner}
 use Rattle.rules.specs.Group.{Labels, labelAt, join, betweenInner, linkFrom, groups}
 use Rattle.rules.proofs.State.{up-length}
 use Rattle.rules.proofs.Label.{IsNode, AllLegal, all-legal, joined-alike, inner-node, ends-inner, relabel-same, relabel-other, length-join, label-join, first-label, groups-join, Linked·same, Linked·over}
-use Rattle.rules.proofs.Matrix.{transistorAt, at-member}
+use Rattle.rules.specs.Matrix.{transistorAt}
+use Rattle.rules.proofs.Matrix.{at-member}
 use Rattle.net.specs.Net.{at, netTransistor, netCircuit}
 use Rattle.net.specs.Laid.{Laid}
 use Rattle.net.proofs.Laying.{nodes-length, transistors-length, transistor-at}

@@ -13,7 +13,7 @@ use Rattle.working.specs.Grown.{bit}
 use Rattle.working.specs.Many.{AllUsed}
 use Rattle.rules.specs.State.{State, isInner}
 use Rattle.rules.specs.Group.{labelAt, groups, ofGroup, reconsidered}
-use Rattle.rules.proofs.Matrix.{isKept, transistorAt}
+use Rattle.rules.specs.Matrix.{isKept, transistorAt}
 use Rattle.net.specs.Net.{nodesPlace, transistorsPlace, at, netCircuit, netGroup}
 use Rattle.net.specs.Roots.{keptPlace, touchedPlace, allPendingPlace, allRootsLength}
 use Rattle.prepare.specs.Steps.{Shows, considered}

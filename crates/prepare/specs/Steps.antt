@@ -11,14 +11,14 @@ use Rattle.format.specs.Legal.{isInput}
 use Rattle.diagram.specs.Pattern.{patterns}
 use Rattle.diagram.specs.Table.{Table, numberAt}
 use Rattle.diagram.specs.Held.{held}
-use Rattle.diagram.proofs.Add.{Extends}
+use Rattle.diagram.specs.Extends.{Extends}
 use Rattle.functions.specs.Open.{Open}
 use Rattle.working.specs.Grown.{bit}
 use Rattle.working.specs.Many.{cell, AllUsed}
 use Rattle.rules.specs.State.{State, valueAt, isInner}
 use Rattle.rules.specs.Group.{labelAt, groups, some}
 use Rattle.rules.specs.Kept.{conducts}
-use Rattle.rules.proofs.Matrix.{isHeld, matrixAt, transistorAt}
+use Rattle.rules.specs.Matrix.{isHeld, matrixAt, transistorAt}
 
 -- a state has the values that entries, by node number, take at a pattern
 abbrev pub Shows : ℕ → Table → List ℕ → ℕ → ℕ → State → Type 0

@@ -11,7 +11,7 @@ use Rattle.lists.proofs.Cases.{lt-or-ge}
 use Rattle.diagram.specs.Pattern.{mostLetters, patterns}
 use Rattle.diagram.specs.Table.{Table, never, terminalLetter, numberAt}
 use Rattle.diagram.proofs.Sound.{Sound}
-use Rattle.diagram.proofs.Add.{Extends}
+use Rattle.diagram.specs.Extends.{Extends}
 use Rattle.diagram.proofs.Number.{numberAt-extends, number-zeroth, number-first, number-second}
 use Rattle.rules.proofs.Time.{least-below, least-own, least-same}
 use Rattle.functions.specs.Open.{Legible}

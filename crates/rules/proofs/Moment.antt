@@ -22,7 +22,8 @@ use Rattle.diagram.specs.Table.{Table, never, numberAt}
 use Rattle.diagram.specs.Sound.{sound}
 use Rattle.diagram.specs.Operation.{twoValued}
 use Rattle.diagram.proofs.Sound.{Sound, sound-record, sound-test}
-use Rattle.diagram.proofs.Add.{Extends, extends-trans}
+use Rattle.diagram.specs.Extends.{Extends}
+use Rattle.diagram.proofs.Add.{extends-trans}
 use Rattle.diagram.proofs.Number.{numberAt-extends, number-second}
 use Rattle.diagram.proofs.Calls.{two-valued-each, each-two-valued}
 use Rattle.rules.specs.State.{State, valueAt, changeAt, nodeNumbers}

@@ -17,7 +17,7 @@ use Rattle.diagram.specs.Table.{Table, never, numberAt}
 use Rattle.diagram.specs.Call.{Columns, lengthsLegal, tableOf, columnsOf, columnsSound}
 use Rattle.diagram.specs.Held.{leastEntries, mostEntries}
 use Rattle.diagram.proofs.Sound.{Sound}
-use Rattle.diagram.proofs.Add.{Extends}
+use Rattle.diagram.specs.Extends.{Extends}
 use Rattle.diagram.proofs.Number.{numberAt-extends}
 use Rattle.diagram.proofs.Columns.{Lengths, ColumnsSound, lengths-record, lengths-test, columns-record, columns-test, columns-sound, columns-length, columns-lengths, columns-table, table-columns, table-length}
 use Rattle.rules.specs.State.{State, valueAt, changeAt}

@@ -15,7 +15,8 @@ use Rattle.format.specs.Circuit.{Circuit}
 use Rattle.format.specs.Legal.{checkCircuit}
 use Rattle.format.proofs.Legal.{legal-limits}
 use Rattle.diagram.specs.Table.{never}
-use Rattle.diagram.proofs.Add.{Extends, extends-refl, extends-trans}
+use Rattle.diagram.specs.Extends.{Extends}
+use Rattle.diagram.proofs.Add.{extends-refl, extends-trans}
 use Rattle.rules.specs.Run.{Moment, timeAfter, stepMoment, continued, runMoment}
 use Rattle.rules.proofs.Moment.{SoundMoment, time-never, time-within, step-time, step-sound, step-extends}
 use Rattle.rules.proofs.Admitted.{Admitted, Barred, admitting, admitted-or-barred, admitted-answer, barred-answer}

@@ -9,7 +9,8 @@ use Rattle.diagram.specs.Pattern.{mostLetters, patterns}
 use Rattle.diagram.specs.Table.{Table, never, numberAt}
 use Rattle.diagram.specs.Store.{Stored, store}
 use Rattle.diagram.proofs.Sound.{Sound}
-use Rattle.diagram.proofs.Add.{Extends, extends-refl, extends-trans}
+use Rattle.diagram.specs.Extends.{Extends}
+use Rattle.diagram.proofs.Add.{extends-refl, extends-trans}
 use Rattle.diagram.proofs.Number.{numberAt-extends, number-second}
 use Rattle.diagram.proofs.Store.{IsStored, store-stored, store-ext}
 use Rattle.diagram.proofs.Canonical.{canonical}

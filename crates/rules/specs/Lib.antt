@@ -2,6 +2,7 @@ pub mod State
 pub mod Arrive
 pub mod Group
 pub mod Kept
+pub mod Matrix
 pub mod Sum
 pub mod Delay
 pub mod Step

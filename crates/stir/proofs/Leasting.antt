@@ -12,7 +12,7 @@ use Rattle.diagram.specs.Table.{Table, terminalLetter, numberAt}
 use Rattle.diagram.specs.Store.{store}
 use Rattle.diagram.specs.Held.{held}
 use Rattle.diagram.proofs.Sound.{Sound}
-use Rattle.diagram.proofs.Add.{Extends}
+use Rattle.diagram.specs.Extends.{Extends}
 use Rattle.diagram.proofs.Store.{store-stored}
 use Rattle.table.specs.declared.Put.{Put}
 use Rattle.table.specs.declared.Stop.the-variants.{Going}

@@ -13,7 +13,8 @@ use Rattle.diagram.specs.Sound.{distinct}
 use Rattle.diagram.specs.Store.{Stored, stored, find, add}
 use Rattle.diagram.specs.Held.{entries, held}
 use Rattle.diagram.proofs.Sound.{distinct-apart, apart-distinct}
-use Rattle.diagram.proofs.Add.{Extends, extends-refl, extends-append, extends-take, find-is, find-missing, find-cases, add-found, add-missing, Added, added}
+use Rattle.diagram.specs.Extends.{Extends}
+use Rattle.diagram.proofs.Add.{extends-refl, extends-append, extends-take, find-is, find-missing, find-cases, add-found, add-missing, Added, added}
 use Rattle.diagram.proofs.Held.{held-length, held-is, held-next}
 use Rattle.table.specs.declared.Put.{Put}
 use Rattle.table.specs.declared.Stop.{Stop}

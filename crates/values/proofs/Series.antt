@@ -16,7 +16,8 @@ use Rattle.diagram.specs.Table.{Table, numberAt}
 use Rattle.diagram.specs.Store.{Stored, store}
 use Rattle.diagram.specs.Held.{held}
 use Rattle.diagram.proofs.Sound.{Sound}
-use Rattle.diagram.proofs.Add.{Extends, extends-refl}
+use Rattle.diagram.specs.Extends.{Extends}
+use Rattle.diagram.proofs.Add.{extends-refl}
 use Rattle.diagram.proofs.Number.{numberAt-extends}
 use Rattle.diagram.proofs.Store.{store-stored, store-ext}
 use Rattle.table.specs.declared.Put.{Put}

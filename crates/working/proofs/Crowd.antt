@@ -8,7 +8,8 @@ use lib.Seq.{getD-take, length-take-le}
 use Rattle.diagram.specs.Pattern.{mostLetters}
 use Rattle.diagram.specs.Table.{Entry, Table, blank, terminalLetter, entryAt}
 use Rattle.diagram.proofs.Sound.{Branch, Legal, Sound}
-use Rattle.diagram.proofs.Add.{Extends, extends-trans}
+use Rattle.diagram.specs.Extends.{Extends}
+use Rattle.diagram.proofs.Add.{extends-trans}
 use Rattle.table.specs.Holds.{Holds}
 use Rattle.table.proofs.Outcomes.{holds-table}
 use Rattle.functions.proofs.Carry.{open-next}

@@ -13,7 +13,8 @@ use Rattle.diagram.specs.Store.{add, store}
 use Rattle.diagram.specs.Operation.{chosen}
 use Rattle.diagram.specs.Held.{held}
 use Rattle.diagram.proofs.Sound.{Branch, Sound}
-use Rattle.diagram.proofs.Add.{Extends, extends-refl, extends-trans}
+use Rattle.diagram.specs.Extends.{Extends}
+use Rattle.diagram.proofs.Add.{extends-refl, extends-trans}
 use Rattle.diagram.proofs.Number.{part-low, part-high, number-terminal, numberAt-extends, number-zeroth, number-first, number-second}
 use Rattle.diagram.proofs.Store.{IsStored, store-stored, store-number}
 use Rattle.diagram.proofs.Shannon.{split, store-halves, number-past, number-split}

@@ -11,7 +11,8 @@ use Rattle.lists.proofs.Cases.{eq-or-ne}
 use Rattle.diagram.specs.Table.{Table, branch}
 use Rattle.diagram.specs.Store.{stored, join, store}
 use Rattle.diagram.specs.Held.{held}
-use Rattle.diagram.proofs.Add.{Extends, added}
+use Rattle.diagram.specs.Extends.{Extends}
+use Rattle.diagram.proofs.Add.{added}
 use Rattle.diagram.proofs.Store.{store-present, join-same, join-differ, join-extends}
 use Rattle.cache.specs.Cache.{Looked, Kept}
 use Rattle.cache.proofs.Results.{cache-none, cache-map, cache-found, cache-kept}

@@ -6,7 +6,7 @@ use Prim.Native.Nat.{ℕ}
 use lib.ListN.{length}
 use Rattle.diagram.specs.Table.{Table}
 use Rattle.diagram.specs.Held.{held}
-use Rattle.diagram.proofs.Add.{Extends}
+use Rattle.diagram.specs.Extends.{Extends}
 use Rattle.table.specs.declared.Put.{Put}
 use Rattle.table.specs.Stop.{stopped}
 use Rattle.functions.specs.Open.{Open}

@@ -6,7 +6,7 @@ use lib.ListN.{getD}
 use lib.Dec.{eqb}
 use Rattle.diagram.specs.Table.{Table}
 use Rattle.diagram.specs.Held.{held}
-use Rattle.diagram.proofs.Add.{Extends}
+use Rattle.diagram.specs.Extends.{Extends}
 use Rattle.functions.specs.Open.{Open}
 use Rattle.functions.specs.Known.{Means}
 
