@@ -27,7 +27,8 @@ use Rattle.diagram.specs.Table.{never}
 use Rattle.diagram.proofs.Pattern.{with-lt, with-same, with-other}
 use Rattle.rules.specs.State.{State, valueAt, changeAt, upFrom, nodeNumbers, isDriven, isInner}
 use Rattle.rules.specs.Arrive.{sourceAt, scheduled, flips, arrivedValue, arrivedChange, arrived, changed}
-use Rattle.rules.specs.Group.{Labels, joined, join, betweenInner, linkFrom, groups, inGroup, ofGroup, disturbed, some as someOf, touched, reconsidered}
+use Rattle.rules.specs.Label.{Labels, joined, join, betweenInner, linkFrom, inPiece, ofPiece, some as someOf, only}
+use Rattle.rules.specs.Reach.{conductsAround, reach, disturbed, touched, reconsidered}
 use Rattle.rules.specs.Kept.{Channel, conducts, keeps, afterKept, keptFrom, kept}
 use Rattle.rules.specs.Sum.{Sum, leads, farEnd, overArms, drivenSum, ownSum, armOf, joinSums, nodeSum, undriven, newValue}
 use Rattle.rules.specs.Delay.{Load, drivenLoad, ownLoad, loadArm, joinLoads, nodeLoad, inOhms}
@@ -151,19 +152,19 @@ module _ {c d : Circuit} (e : Alike c d) where
       link-alike (cond (betweenInner c t) (join ls (t .first) (t .second)) ls) ts
       ∙ ap (λ (b : Bool). linkFrom d (cond b (join ls (t .first) (t .second)) ls) ts) (between-alike t)
 
-  -- the same groups
-  pub groups-alike : groups c ≡ groups d
-  unfolding groups
-  groups-alike =
-      link-alike (nodeNumbers c) (c .transistors)
-      ∙ ap₂ (linkFrom d) numbers-alike (e .transistors-same)
+  -- the same nodes are reached
+  pub reach-alike : (before after : State) → reach c before after ≡ reach d before after
+  unfolding reach
+  reach-alike before after =
+      link-alike (nodeNumbers c) (only (conductsAround before after) (c .transistors))
+      ∙ ap₂ (λ (ls : Labels) (ts : List Transistor). linkFrom d ls (only (conductsAround before after) ts)) numbers-alike (e .transistors-same)
 
-  in-alike : (n m : ℕ) → inGroup c n m ≡ inGroup d n m
-  in-alike n m = ap₂ (λ (b : Bool) (ls : Labels). b && joined ls n m) (inner-alike m) groups-alike
+  in-alike : (ls : Labels) (n m : ℕ) → inPiece c ls n m ≡ inPiece d ls n m
+  in-alike ls n m = ap (λ (b : Bool). b && joined ls n m) (inner-alike m)
 
-  -- the same transistors of a group
-  pub of-alike : (n : ℕ) (t : Transistor) → ofGroup c n t ≡ ofGroup d n t
-  of-alike n t = ap₂ _||_ (in-alike n (t .first)) (in-alike n (t .second))
+  -- the same transistors of a piece
+  of-alike : (ls : Labels) (n : ℕ) (t : Transistor) → ofPiece c ls n t ≡ ofPiece d ls n t
+  of-alike ls n t = ap₂ _||_ (in-alike ls n (t .first)) (in-alike ls n (t .second))
 
   -- the same transistors are disturbed
   pub disturbed-alike : (before after : State) (t : Transistor) → disturbed c before after t ≡ disturbed d before after t
@@ -171,17 +172,19 @@ module _ {c d : Circuit} (e : Alike c d) where
       ap₂ (λ (a b : Bool). changed before after (t .gate) || (a && changed before after (t .first)) || (b && changed before after (t .second)))
       (e .input-same (t .first)) (e .input-same (t .second))
 
-  -- the same groups are touched
-  pub touched-alike : (before after : State) (n : ℕ) → touched c before after n ≡ touched d before after n
+  -- the same pieces are touched
+  touched-alike : (ls : Labels) (before after : State) (n : ℕ) → touched c ls before after n ≡ touched d ls before after n
   unfolding touched
-  touched-alike before after n =
-      some-same _ (λ (t : Transistor). ofGroup d n t && disturbed d before after t) (c .transistors)
-      (λ t m. ap₂ _&&_ (of-alike n t) (disturbed-alike before after t))
-      ∙ ap (someOf (λ (t : Transistor). ofGroup d n t && disturbed d before after t)) (e .transistors-same)
+  touched-alike ls before after n =
+      some-same _ (λ (t : Transistor). ofPiece d ls n t && disturbed d before after t) (c .transistors)
+      (λ t m. ap₂ _&&_ (of-alike ls n t) (disturbed-alike before after t))
+      ∙ ap (someOf (λ (t : Transistor). ofPiece d ls n t && disturbed d before after t)) (e .transistors-same)
 
   -- the same nodes are reconsidered
   pub reconsidered-alike : (before after : State) (n : ℕ) → reconsidered c before after n ≡ reconsidered d before after n
-  reconsidered-alike before after n = ap₂ _&&_ (inner-alike n) (touched-alike before after n)
+  reconsidered-alike before after n =
+      ap₂ _&&_ (inner-alike n)
+      (touched-alike (reach c before after) before after n ∙ ap (λ (ls : Labels). touched d ls before after n) (reach-alike before after))
 
   keeps-alike : (s : State) (ls : Labels) (t : Transistor) → keeps c s ls t ≡ keeps d s ls t
   keeps-alike s ls t = ap (λ (b : Bool). conducts s t && not (b && joined ls (t .first) (t .second))) (between-alike t)

@@ -15,7 +15,8 @@ use Rattle.format.specs.Legal.{isInput}
 use Rattle.diagram.specs.Pattern.{letterAt}
 use Rattle.rules.specs.State.{State, valueAt, changeAt, nodeNumbers, isInner}
 use Rattle.rules.specs.Arrive.{sourceAt, scheduled, flips, arrivedValue, arrivedChange, arrived, changed}
-use Rattle.rules.specs.Group.{some, ofGroup, disturbed, touched, reconsidered}
+use Rattle.rules.specs.Label.{Labels, ofPiece, some}
+use Rattle.rules.specs.Reach.{reach, disturbed, touched, reconsidered}
 use Rattle.rules.specs.Kept.{kept}
 use Rattle.rules.specs.Step.{nextChange, stepped}
 use Rattle.rules.proofs.State.{Numbered, Shaped, Bits, map-value, map-change, map-shaped, numbers-same, changes-eta, state-ext}
@@ -142,14 +143,14 @@ module _ (c : Circuit) (s : State) where
   pub still-disturbed : (t : Transistor) → disturbed c s s t ≡ false
   still-disturbed t = rw (still (t .gate), still (t .first), still (t .second), and-false (isInput c (t .first)), and-false (isInput c (t .second)))
 
-  -- and no group is touched
-  pub still-touched : (n : ℕ) → touched c s s n ≡ false
+  -- and no piece is touched
+  pub still-touched : (ls : Labels) (n : ℕ) → touched c ls s s n ≡ false
   unfolding touched
-  still-touched n = some-none _ (c .transistors) (λ t. rw (still-disturbed t) (and-false (ofGroup c n t)))
+  still-touched ls n = some-none _ (c .transistors) (λ t. rw (still-disturbed t) (and-false (ofPiece c ls n t)))
 
   -- so no node is reconsidered
   pub still-reconsidered : (n : ℕ) → reconsidered c s s n ≡ false
-  still-reconsidered n = rw (still-touched n) (and-false (isInner c n))
+  still-reconsidered n = rw (still-touched (reach c s s) n) (and-false (isInner c n))
 
 -- the next change that a step from s leaves with a node, once all of T has happened
 abbrev pub steppedChange : Circuit → ℕ → State → State → ℕ → ℕ

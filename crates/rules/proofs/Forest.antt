@@ -15,7 +15,7 @@ use Rattle.format.specs.declared.Transistor.{Transistor}
 use Rattle.format.specs.Circuit.{Circuit}
 use Rattle.format.proofs.Legal.{LegalTransistor}
 use Rattle.rules.specs.State.{State, nodeNumbers}
-use Rattle.rules.specs.Group.{Labels, labelAt, joined, join, betweenInner}
+use Rattle.rules.specs.Label.{Labels, labelAt, joined, join, betweenInner}
 use Rattle.rules.specs.Kept.{Channel, conducts, keeps, afterKept, keptFrom, kept}
 use Rattle.rules.proofs.State.{up-length}
 use Rattle.rules.proofs.Label.{false-true, IsNode, AllLegal, ends-inner, Alike, length-join, join-keeps, join-links, Linked, Linked·same, Linked·over}

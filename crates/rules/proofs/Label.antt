@@ -1,21 +1,22 @@
--- Labels join what their channels link: the laws of joining, and the groups as a closure of "a channel between inner nodes".
-use mathlib.Core.Path.{_≡_, refl, sym, _∙_, ap, subst}
+-- Labels join what their channels link: the laws of joining, and the pieces as a closure of "a channel between inner nodes".
+use mathlib.Core.Path.{_≡_, refl, sym, _∙_, ap, ap₂, subst}
 use mathlib.Core.Logic.{_⊎_, inl, inr, ⊎-elim, ⊎-map, _↔_}
 use mathlib.Core.Bool.{Bool, true, false, _||_, cond}
-use mathlib.Core.List.{List, [], _∷_, List·Memᴰ, List·Memᴰ·head, List·Memᴰ·tail, List·Memᴰ·not-nil, List·Memᴰ·cases-cons}
+use mathlib.Core.List.{List, [], _∷_, map, List·Memᴰ, List·Memᴰ·head, List·Memᴰ·tail, List·Memᴰ·not-nil, List·Memᴰ·cases-cons}
 use Prim.Native.Nat.{ℕ, zero, suc, _+_, _-_, _≤_, _<_}
 use native.Mathlib.Omega.{arith}
 use lib.ListN.{length, getD, length-map}
 use lib.Dec.{eqb, ltb}
 use borrow.Author.Tests.{ltb-false, eqb-true, not-true, eq-eqb, ne-eqb}
-use Rattle.lists.proofs.Cases.{bool-cases, eq-or-ne, and-left, and-right}
+use Rattle.lists.proofs.Cases.{bool-cases, eq-or-ne, and-left, and-right, or-cases, or-left, or-right}
 use Rattle.lists.proofs.Map.{map-at}
 use Rattle.format.specs.declared.Transistor.{Transistor}
 use Rattle.format.specs.Circuit.{Circuit, noTransistor}
 use Rattle.format.specs.Legal.{isInput}
 use Rattle.format.proofs.Legal.{LegalTransistor, LegalCell}
 use Rattle.rules.specs.State.{upFrom, nodeNumbers, isDriven, isInner}
-use Rattle.rules.specs.Group.{Labels, labelAt, joined, join, betweenInner, linkFrom, groups}
+use Rattle.rules.specs.Label.{Labels, labelAt, joined, join, betweenInner, linkFrom, pieces, some, only}
+use Rattle.rules.specs.Group.{groups}
 use Rattle.rules.proofs.State.{up-length, up-at}
 
 -- no test passes and fails
@@ -225,6 +226,12 @@ module _ (c : Circuit) (nodes : ℕ) where
       (λ (e : betweenInner c t ≡ false). rw e)
       (bool-cases (betweenInner c t))
 
+  -- as many labels as before, over all transistors
+  pub link-length : (ts : List Transistor) (ls : Labels) → length (linkFrom c ls ts) ≡ length ls
+  unfolding linkFrom
+  link-length [] ls = refl
+  link-length (t ∷ ts) ls = link-length ts (linkOne c ls t) ∙ one-length ls t
+
   module _ (x y : ℕ) (hx : IsNode nodes x) (hy : IsNode nodes y) where
     one-keeps : (ls : Labels) (t : Transistor) → length ls ≡ nodes → Alike ls x y → Alike (linkOne c ls t) x y
     one-keeps ls t len same =
@@ -288,36 +295,106 @@ module _ (c : Circuit) (nodes : ℕ) (all : List Transistor) where
       link-only ts (linkOne c ls t) (λ u m. sub u (List·Memᴰ·tail m)) (λ u m. h u (List·Memᴰ·tail m))
       (one-only ls t (h t (List·Memᴰ·head refl)) (sub t (List·Memᴰ·head refl)) w)
 
-module _ (c : Circuit) (h : AllLegal (length (c .nodes)) (c .transistors)) where
-  -- nodes of one group are linked
-  pub groups-only : (x y : ℕ) → IsNode (length (c .nodes)) x → IsNode (length (c .nodes)) y → Joined (groups c) x y → Linked c (c .transistors) x y
-  unfolding groups
-  groups-only x y hx hy e =
-      link-only c (length (c .nodes)) (c .transistors) (c .transistors) (nodeNumbers c) (λ t m. m) h
+-- Labels tell exactly the paths: two nodes are of one piece where channels of the list lead from one to the other through inner nodes.
+module _ (c : Circuit) (ts : List Transistor) (h : AllLegal (length (c .nodes)) ts) where
+  pub pieces-only : (x y : ℕ) → IsNode (length (c .nodes)) x → IsNode (length (c .nodes)) y → Joined (pieces c ts) x y → Linked c ts x y
+  pieces-only x y hx hy e =
+      link-only c (length (c .nodes)) ts ts (nodeNumbers c) (λ t m. m) h
       (record {
         size = up-length (length (c .nodes)) 2;
         only = λ u v hu hv same. Linked·same (first-joined c u v hu hv (alike-joined (nodeNumbers c) u v same));
       })
-      .only x y hx hy (joined-alike (groups c) x y e)
+      .only x y hx hy (joined-alike (pieces c ts) x y e)
 
-  between-alike : {x y : ℕ} → Between c (c .transistors) x y → Alike (groups c) x y
-  unfolding groups
+  between-alike : {x y : ℕ} → Between c ts x y → Alike (pieces c ts) x y
   between-alike {x} {y} b =
-      let ends : Alike (groups c) (b .transistor .first) (b .transistor .second) =
-      link-joins c (length (c .nodes)) (b .transistor) (h (b .transistor) (b .listed)) (b .inner) (c .transistors) (nodeNumbers c) (up-length (length (c .nodes)) 2) (b .listed) in
+      let ends : Alike (pieces c ts) (b .transistor .first) (b .transistor .second) =
+      link-joins c (length (c .nodes)) (b .transistor) (h (b .transistor) (b .listed)) (b .inner) ts (nodeNumbers c) (up-length (length (c .nodes)) 2) (b .listed) in
       ⊎-elim
-      (λ (p : (b .transistor .first ≡ x) × (b .transistor .second ≡ y)). ap (labelAt (groups c)) (sym (p .0)) ∙ ends ∙ ap (labelAt (groups c)) (p .1))
-      (λ (p : (b .transistor .first ≡ y) × (b .transistor .second ≡ x)). ap (labelAt (groups c)) (sym (p .1)) ∙ sym ends ∙ ap (labelAt (groups c)) (p .0))
+      (λ (p : (b .transistor .first ≡ x) × (b .transistor .second ≡ y)). ap (labelAt (pieces c ts)) (sym (p .0)) ∙ ends ∙ ap (labelAt (pieces c ts)) (p .1))
+      (λ (p : (b .transistor .first ≡ y) × (b .transistor .second ≡ x)). ap (labelAt (pieces c ts)) (sym (p .1)) ∙ sym ends ∙ ap (labelAt (pieces c ts)) (p .0))
       (b .ends)
 
-  linked-alike : {x y : ℕ} → Linked c (c .transistors) x y → Alike (groups c) x y
-  linked-alike (Linked·same e) = ap (labelAt (groups c)) e
+  linked-alike : {x y : ℕ} → Linked c ts x y → Alike (pieces c ts) x y
+  linked-alike (Linked·same e) = ap (labelAt (pieces c ts)) e
   linked-alike (Linked·over b r) = between-alike b ∙ linked-alike r
 
+  pub pieces-join : (x y : ℕ) → Linked c ts x y → Joined (pieces c ts) x y
+  pieces-join x y l = alike-joined (pieces c ts) x y (linked-alike l)
+
+  pub pieces-exactly : (x y : ℕ) → IsNode (length (c .nodes)) x → IsNode (length (c .nodes)) y → Joined (pieces c ts) x y ↔ Linked c ts x y
+  pieces-exactly x y hx hy = (pieces-only x y hx hy, pieces-join x y)
+
+module _ (c : Circuit) (h : AllLegal (length (c .nodes)) (c .transistors)) where
   -- linked nodes are of one group
   pub groups-join : (x y : ℕ) → Linked c (c .transistors) x y → Joined (groups c) x y
-  groups-join x y l = alike-joined (groups c) x y (linked-alike l)
+  unfolding groups
+  groups-join x y l = pieces-join c (c .transistors) h x y l
 
   -- the groups are the inner nodes linked by channels, conducting or not
   pub groups-exactly : (x y : ℕ) → IsNode (length (c .nodes)) x → IsNode (length (c .nodes)) y → Joined (groups c) x y ↔ Linked c (c .transistors) x y
-  groups-exactly x y hx hy = (groups-only x y hx hy, groups-join x y)
+  unfolding groups
+  groups-exactly x y hx hy = pieces-exactly c (c .transistors) h x y hx hy
+
+-- channels of a larger list lead as far
+pub linked-more : {c : Circuit} {ts us : List Transistor} → ((t : Transistor) → List·Memᴰ t ts → List·Memᴰ t us) → {x y : ℕ} → Linked c ts x y → Linked c us x y
+linked-more h (Linked·same e) = Linked·same e
+linked-more h (Linked·over b r) = Linked·over (record { transistor = b .transistor; listed = h (b .transistor) (b .listed); inner = b .inner; ends = b .ends }) (linked-more h r)
+
+-- joining what is joined changes nothing
+pub join-joined : (ls : Labels) (a b : ℕ) → joined ls a b ≡ true → join ls a b ≡ ls
+join-joined ls a b e = same ls
+  where
+    one : (l : ℕ) → cond (eqb l (labelAt ls b)) (labelAt ls a) l ≡ l
+    one l =
+        ⊎-elim
+        (λ (q : l ≡ labelAt ls b). rw (eq-eqb l (labelAt ls b) q) (joined-alike ls a b e ∙ sym q))
+        (λ (q : l ≡ labelAt ls b → ⊥). rw (ne-eqb l (labelAt ls b) q))
+        (eq-or-ne l (labelAt ls b))
+
+    same : (xs : List ℕ) → map (λ (l : ℕ). cond (eqb l (labelAt ls b)) (labelAt ls a) l) xs ≡ xs
+    same [] = refl
+    same (x ∷ xs) = ap₂ _∷_ (one x) (same xs)
+
+-- some element passes exactly where one is known that does
+module _ {A : Type 0} (test : A → Bool) where
+  pub some-found : (xs : List A) → some test xs ≡ true → (x : A) × List·Memᴰ x xs × (test x ≡ true)
+  unfolding some
+  some-found [] e = false-true e
+  some-found (y ∷ ys) e =
+      ⊎-elim
+      (λ (q : test y ≡ true). (y, List·Memᴰ·head refl, q))
+      (λ (q : some test ys ≡ true). let r = some-found ys q in (r .0, List·Memᴰ·tail (r .1), r .2))
+      (or-cases (test y) (some test ys) e)
+
+  pub some-passes : (xs : List A) (x : A) → List·Memᴰ x xs → test x ≡ true → some test xs ≡ true
+  unfolding some
+  some-passes [] x m e = absurd (List·Memᴰ·not-nil m)
+  some-passes (y ∷ ys) x m e =
+      ⊎-elim
+      (λ (q : x ≡ y). or-left (test y) (some test ys) (subst (λ (z : A). test z ≡ true) q e))
+      (λ (r : List·Memᴰ x ys). or-right (test y) (some test ys) (some-passes ys x r e))
+      (List·Memᴰ·cases-cons m)
+
+  -- the elements that pass are of the list, and pass
+  pub only-of : (xs : List A) (x : A) → List·Memᴰ x (only test xs) → List·Memᴰ x xs × (test x ≡ true)
+  unfolding only
+  only-of [] x m = absurd (List·Memᴰ·not-nil m)
+  only-of (y ∷ ys) x m = by (λ at. let r = only-of ys x at in (List·Memᴰ·tail (r .0), r .1)) (test y) refl m
+    where
+      by : (List·Memᴰ x (only test ys) → List·Memᴰ x (y ∷ ys) × (test x ≡ true)) → (b : Bool) → test y ≡ b
+          → List·Memᴰ x (cond b (y ∷ only test ys) (only test ys)) → List·Memᴰ x (y ∷ ys) × (test x ≡ true)
+      by later true e at = ⊎-elim (λ (q : x ≡ y). (List·Memᴰ·head q, ap test q ∙ e)) later (List·Memᴰ·cases-cons at)
+      by later false e at = later at
+
+  -- and all that do are there
+  pub only-in : (xs : List A) (x : A) → List·Memᴰ x xs → test x ≡ true → List·Memᴰ x (only test xs)
+  unfolding only
+  only-in [] x m e = m
+  only-in (y ∷ ys) x m e = by (λ at. only-in ys x at e) (test y) refl (List·Memᴰ·cases-cons m)
+    where
+      by : (List·Memᴰ x ys → List·Memᴰ x (only test ys)) → (b : Bool) → test y ≡ b → (x ≡ y) ⊎ List·Memᴰ x ys → List·Memᴰ x (cond b (y ∷ only test ys) (only test ys))
+      by later true q (inl at) = List·Memᴰ·head at
+      by later true q (inr at) = List·Memᴰ·tail (later at)
+      by later false q (inl at) = false-true (sym q ∙ sym (ap test at) ∙ e)
+      by later false q (inr at) = later at

@@ -12,6 +12,7 @@ pub mod Cases
 pub mod Mistakes
 pub mod Opened
 pub mod Label
+pub mod Reach
 pub mod Forest
 pub mod Walk
 pub mod Range

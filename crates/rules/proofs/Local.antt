@@ -4,7 +4,7 @@ use mathlib.Core.Path.{_≡_, refl, sym, _∙_, ap}
 use mathlib.Core.Logic.{_⊎_, inl, inr, ⊎-elim}
 use mathlib.Core.Bool.{Bool, true, false, _||_, _&&_, cond, or-true}
 use mathlib.Core.Option.{Option, some, none}
-use mathlib.Core.List.{List, [], _∷_, List·Memᴰ, List·Memᴰ·head, List·Memᴰ·tail, List·Memᴰ·cases-cons}
+use mathlib.Core.List.{List, [], _∷_, List·Memᴰ}
 use Prim.Native.Nat.{ℕ, zero, suc}
 use lib.ListN.{length}
 use lib.Dec.{eqb}
@@ -12,32 +12,19 @@ use Rattle.lists.proofs.Cases.{bool-cases, true-false}
 use Rattle.units.specs.Rules as units
 use Rattle.format.specs.Circuit.{Circuit, nodeRecord}
 use Rattle.rules.specs.State.{State, valueAt, changeAt, isDriven}
+use Rattle.rules.specs.Label.{only}
 use Rattle.rules.specs.Kept.{Channel}
 use Rattle.rules.specs.Sum.{Sum, leads, farEnd, overArms, drivenSum, ownSum, nodeSum, undriven}
 use Rattle.rules.specs.Delay.{Load, drivenLoad, ownLoad, nodeLoad, inOhms}
 use Rattle.rules.specs.Step.{target, delayBy, delayTo, nextChange}
+use Rattle.rules.proofs.Label.{only-of}
 use Rattle.rules.proofs.Walk.{Rule, walk, sumRule, loadRule, sum-walk, load-walk, walk-end, arms-same, Ends, leads-ends, ends-far}
-
--- the channels of a list that pass a test
-unfoldable pub only : (Channel → Bool) → List Channel → List Channel
-only test [] = []
-only test (k ∷ ks) = cond (test k) (k ∷ only test ks) (only test ks)
 
 -- a channel with an end in a set
 abbrev pub touches : (ℕ → Bool) → Channel → Bool
 touches P k = P (k .transistor .first) || P (k .transistor .second)
 
 module _ (test : Channel → Bool) where
-  -- those that pass are of the list
-  pub only-listed : (ks : List Channel) (k : Channel) → List·Memᴰ k (only test ks) → List·Memᴰ k ks
-  unfolding only
-  only-listed [] k m = m
-  only-listed (j ∷ ks) k m = by (λ r. List·Memᴰ·tail (only-listed ks k r)) (test j) m
-    where
-      by : (List·Memᴰ k (only test ks) → List·Memᴰ k (j ∷ ks)) → (b : Bool) → List·Memᴰ k (cond b (j ∷ only test ks) (only test ks)) → List·Memᴰ k (j ∷ ks)
-      by below true at = ⊎-elim (λ (q : k ≡ j). List·Memᴰ·head q) below (List·Memᴰ·cases-cons at)
-      by below false at = below at
-
   -- arms that do not pass may be left out where only those that pass lead away
   pub arms-only : {A : Type 0} (away : Channel → Bool) (f : A → Channel → A) (o : A) (ks : List Channel)
       → ((k : Channel) → away k ≡ true → test k ≡ true) → overArms away f o ks ≡ overArms away f o (only test ks)
@@ -100,7 +87,7 @@ module _ {A : Type 0} (P : ℕ → Bool) (ks js : List Channel) (r q : Rule A)
       rw (alike n p .ends, alike n p .driven)
       (ap (cond (q .ends n) (q .driven n))
       (arms-only (touches P) away f (r .own n) ks within
-      ∙ arms-same away f g (only (touches P) ks) (λ k m e v. add v k _ ∙ ap (q .add v k) (far k (only-listed (touches P) ks k m) e)) (r .own n)
+      ∙ arms-same away f g (only (touches P) ks) (λ k m e v. add v k _ ∙ ap (q .add v k) (far k (only-of (touches P) ks k m .0) e)) (r .own n)
       ∙ ap (λ (o : A). overArms away g o (only (touches P) ks)) (alike n p .own)
       ∙ ap (overArms away g (q .own n)) same
       ∙ sym (arms-only (touches P) away g (q .own n) js within)))

@@ -14,7 +14,8 @@ use Rattle.format.specs.declared.Transistor.{Transistor}
 use Rattle.format.specs.Circuit.{Circuit, noTransistor}
 use Rattle.format.proofs.Legal.{LegalTransistor, LegalCell}
 use Rattle.rules.specs.State.{State, nodeNumbers, isInner}
-use Rattle.rules.specs.Group.{Labels, joined, join, betweenInner, groups, inGroup, ofGroup, some}
+use Rattle.rules.specs.Label.{Labels, joined, join, betweenInner, some}
+use Rattle.rules.specs.Group.{groups, inGroup, ofGroup}
 use Rattle.rules.specs.Matrix.{isKept, transistorAt, Matrix, identity, linked, holds, afterHeld, matrixAt, isHeld}
 use Rattle.rules.specs.Kept.{Channel, conducts, keeps, afterKept, keptFrom, kept}
 use Rattle.rules.proofs.State.{up-length}

@@ -17,11 +17,12 @@ use Rattle.rules.specs.Cases.{ground, supply, low, high, letter, complem
 use Rattle.rules.proofs.Opened.{opened}
 use Rattle.rules.proofs.Examples.{line, listing}
 
--- Reconsidering a node for patterns in which nothing touched its group.
--- Nodes 4 and 5 are one group, joined at 95; node 5 is then to rise over 1100 ohm with 100 + 100 × 1000 / 1100 = 191 fF: 95 + 211 = 306.
--- Node 4 rises at 100, which touches no group. At 101 the input 2, at the end of a channel that never conducts, takes letter 0.
--- Where that is 0 nothing changed: 306 stays. Where it is 1 the group is touched, and with 100 fF left: 101 + 110 = 211.
--- Reconsidered at 100, node 5 would rise at 210; at 101 for both patterns, at 211 in both.
+-- Reconsidering a node for patterns in which nothing disturbed what it reaches.
+-- Nodes 4 and 5 are joined at 95; node 5 is then to rise over 1100 ohm with 100 + 100 × 1000 / 1100 = 191 fF: 95 + 211 = 306.
+-- Node 4 rises at 100, which disturbs no transistor. At 101 the input 2, at the end of a channel that never conducts, takes letter 0.
+-- Where that is 0 nothing changed: 306 stays. Where it is 1 the channel is disturbed, its other end is node 5, and with 100 fF left: 101 + 110 = 211.
+-- Reconsidered at 100, node 5 would rise at 210; at 101 for both patterns, at 211 in both. With inputs that disturb only where the channel
+-- conducts, 306 would stay in both.
 abbrev touching : Circuit
 touching =
     cell 1
@@ -29,7 +30,7 @@ touching =
     (pType ground supply 4 1000 ∷ nType 3 4 5 100 ∷ nType ground 2 5 10 ∷ [])
     (at 95 3 high ∷ at 101 2 (letter 0) ∷ [])
 
-pub untouched-pattern-keeps :
+pub still-pattern-keeps :
     listing 5 0 touching
     ≡ line 0 (0 ∷ 0 ∷ 0 ∷ 0 ∷ []) (never ∷ never ∷ 100 ∷ never ∷ [])
     ∷ line 95 (0 ∷ 1 ∷ 0 ∷ 0 ∷ []) (never ∷ never ∷ 100 ∷ 306 ∷ [])
@@ -39,9 +40,9 @@ pub untouched-pattern-keeps :
     ∷ line 306 (0 ∷ 1 ∷ 1 ∷ 1 ∷ []) (never ∷ never ∷ never ∷ never ∷ [])
     ∷ []
 unfolding listing
-untouched-pattern-keeps = refl
+still-pattern-keeps = refl
 
-pub touched-pattern-reconsidered :
+pub disturbed-pattern-reconsidered :
     listing 4 1 touching
     ≡ line 0 (0 ∷ 0 ∷ 0 ∷ 0 ∷ []) (never ∷ never ∷ 100 ∷ never ∷ [])
     ∷ line 95 (0 ∷ 1 ∷ 0 ∷ 0 ∷ []) (never ∷ never ∷ 100 ∷ 306 ∷ [])
@@ -50,7 +51,76 @@ pub touched-pattern-reconsidered :
     ∷ line 211 (1 ∷ 1 ∷ 1 ∷ 1 ∷ []) (never ∷ never ∷ never ∷ never ∷ [])
     ∷ []
 unfolding listing
-touched-pattern-reconsidered = refl
+disturbed-pattern-reconsidered = refl
+
+-- The whole group of channels, conducting or not. As `touching`, but at 101 the input 2 gates a transistor of node 6, which only a channel
+-- that never conducts links to node 5: it is not reached, and rises at 306. With the whole group it would rise at 211.
+abbrev cutOff : Circuit
+cutOff =
+    cell 0
+    (input low ∷ input low ∷ inner low 100 ∷ inner low 100 ∷ inner low 10 ∷ [])
+    (pType ground supply 4 1000 ∷ nType 3 4 5 100 ∷ nType ground 5 6 10 ∷ nType 2 ground 6 10 ∷ [])
+    (at 95 3 high ∷ at 101 2 high ∷ [])
+
+pub cut-off-keeps :
+    listing 4 0 cutOff
+    ≡ line 0 (0 ∷ 0 ∷ 0 ∷ 0 ∷ 0 ∷ []) (never ∷ never ∷ 100 ∷ never ∷ never ∷ [])
+    ∷ line 95 (0 ∷ 1 ∷ 0 ∷ 0 ∷ 0 ∷ []) (never ∷ never ∷ 100 ∷ 306 ∷ never ∷ [])
+    ∷ line 100 (0 ∷ 1 ∷ 1 ∷ 0 ∷ 0 ∷ []) (never ∷ never ∷ never ∷ 306 ∷ never ∷ [])
+    ∷ line 101 (1 ∷ 1 ∷ 1 ∷ 0 ∷ 0 ∷ []) (never ∷ never ∷ never ∷ 306 ∷ never ∷ [])
+    ∷ line 306 (1 ∷ 1 ∷ 1 ∷ 1 ∷ 0 ∷ []) (never ∷ never ∷ never ∷ never ∷ never ∷ [])
+    ∷ []
+unfolding listing
+cut-off-keeps = refl
+
+-- Reach through an input. Input 7 is high and always joined to nodes 5 and 6, to node 5 over 1,000,000 ohm. Node 5 is to rise at 95 + 210 = 305: 1100
+-- ohm beside 1,000,000 are 1099, with 191 fF. At 101 the input 2 gates a transistor of node 6, which leads to node 5 only through input 7.
+-- Reconsidered, node 5 would rise at 101 + 110 = 211.
+abbrev beyondInput : Circuit
+beyondInput =
+    cell 0
+    (input low ∷ input low ∷ inner low 100 ∷ inner low 100 ∷ inner high 10 ∷ input high ∷ [])
+    (pType ground supply 4 1000 ∷ nType 3 4 5 100 ∷ nType supply 7 5 1000000 ∷ nType supply 7 6 10 ∷ nType 2 supply 6 10 ∷ [])
+    (at 95 3 high ∷ at 101 2 high ∷ [])
+
+pub input-leads-nowhere :
+    listing 4 0 beyondInput
+    ≡ line 0 (0 ∷ 0 ∷ 0 ∷ 0 ∷ 1 ∷ 1 ∷ []) (never ∷ never ∷ 100 ∷ never ∷ never ∷ never ∷ [])
+    ∷ line 95 (0 ∷ 1 ∷ 0 ∷ 0 ∷ 1 ∷ 1 ∷ []) (never ∷ never ∷ 100 ∷ 305 ∷ never ∷ never ∷ [])
+    ∷ line 100 (0 ∷ 1 ∷ 1 ∷ 0 ∷ 1 ∷ 1 ∷ []) (never ∷ never ∷ never ∷ 305 ∷ never ∷ never ∷ [])
+    ∷ line 101 (1 ∷ 1 ∷ 1 ∷ 0 ∷ 1 ∷ 1 ∷ []) (never ∷ never ∷ never ∷ 305 ∷ never ∷ never ∷ [])
+    ∷ line 305 (1 ∷ 1 ∷ 1 ∷ 1 ∷ 1 ∷ 1 ∷ []) (never ∷ never ∷ never ∷ never ∷ never ∷ never ∷ [])
+    ∷ []
+unfolding listing
+input-leads-nowhere = refl
+
+-- Only the ends of a disturbed transistor. Node 3 is the end of the pull-down that opens at 10, node 4 stands behind it: 3 falls over 1000 ohm with
+-- 10 + 20 fF, 4 over 2000 with 20 + 10 × 1000 / 2000 = 25. Not reconsidered, node 4 would stay high.
+abbrev behind : Circuit
+behind = cell 0 (input low ∷ inner high 10 ∷ inner high 20 ∷ []) (nType 2 ground 3 1000 ∷ nType supply 3 4 1000 ∷ []) (at 10 2 high ∷ [])
+
+pub channels-lead-on :
+    listing 3 0 behind
+    ≡ line 0 (0 ∷ 1 ∷ 1 ∷ []) (never ∷ never ∷ never ∷ [])
+    ∷ line 10 (1 ∷ 1 ∷ 1 ∷ []) (never ∷ 40 ∷ 60 ∷ [])
+    ∷ line 40 (1 ∷ 0 ∷ 1 ∷ []) (never ∷ never ∷ 60 ∷ [])
+    ∷ line 60 (1 ∷ 0 ∷ 0 ∷ []) (never ∷ never ∷ never ∷ [])
+    ∷ []
+unfolding listing
+channels-lead-on = refl
+
+-- Disturbed transistors that conduct alone. The pull-down of node 3 shuts at 50, before its fall at 100, which is taken back: nothing drives the
+-- node any more. With transistors that conduct after T alone it would fall.
+abbrev shutting : Circuit
+shutting = cell 0 (input high ∷ inner high 100 ∷ []) (nType 2 ground 3 1000 ∷ []) (at 50 2 low ∷ [])
+
+pub shutting-disturbs :
+    listing 1 0 shutting
+    ≡ line 0 (1 ∷ 1 ∷ []) (never ∷ 100 ∷ [])
+    ∷ line 50 (0 ∷ 1 ∷ []) (never ∷ never ∷ [])
+    ∷ []
+unfolding listing
+shutting-disturbs = refl
 
 -- Flipping one node and reading its neighbours before the rest.
 -- At 60 node 2 rises (1000 ohm, 60 fF) and input 4 falls. Before: 600 ohm to supply, 1000 to ground, high. After: the other 1000 ohm to
@@ -275,8 +345,8 @@ pub values-stored-first :
 unfolding opened
 values-stored-first = refl
 
--- A transistor with both ends driven taken into a group. As `touching`, but input 2 gates a channel from supply to input 3: its change
--- at 101 touches nothing, and node 5 rises at 306.
+-- A transistor with both ends driven. As `touching`, but input 2 gates a channel from supply to input 3: its change at 101 reaches no inner node,
+-- and node 5 rises at 306.
 abbrev drivenEnds : Circuit
 drivenEnds =
     cell 0
@@ -284,7 +354,7 @@ drivenEnds =
     (pType ground supply 4 1000 ∷ nType 3 4 5 100 ∷ nType 2 supply 3 10 ∷ [])
     (at 95 3 high ∷ at 101 2 high ∷ [])
 
-pub driven-ends-have-no-group :
+pub driven-ends-reach-nothing :
     listing 4 0 drivenEnds
     ≡ line 0 (0 ∷ 0 ∷ 0 ∷ 0 ∷ []) (never ∷ never ∷ 100 ∷ never ∷ [])
     ∷ line 95 (0 ∷ 1 ∷ 0 ∷ 0 ∷ []) (never ∷ never ∷ 100 ∷ 306 ∷ [])
@@ -293,7 +363,7 @@ pub driven-ends-have-no-group :
     ∷ line 306 (1 ∷ 1 ∷ 1 ∷ 1 ∷ []) (never ∷ never ∷ never ∷ never ∷ [])
     ∷ []
 unfolding listing
-driven-ends-have-no-group = refl
+driven-ends-reach-nothing = refl
 
 -- A node that no channel reaches, 3, keeps its charge; node 4 beside it falls 20 ps after its gate rises.
 abbrev alone : Circuit
@@ -308,12 +378,12 @@ pub node-alone-keeps :
 unfolding listing
 node-alone-keeps = refl
 
--- A node that gates its own pull-down: 1000 ohm against 3000 to supply. Each flip of its touches its group, so it gets its next change at
+-- A node that gates its own pull-down: 1000 ohm against 3000 to supply. Each flip of its disturbs that transistor, so it gets its next change at
 -- once: down in 40, up in 120.
 abbrev selfGated : Circuit
 selfGated = cell 0 (inner high 40 ∷ []) (nType 2 ground 2 1000 ∷ pType ground supply 2 3000 ∷ []) []
 
-pub own-gate-touches :
+pub own-gate-disturbs :
     listing 3 0 selfGated
     ≡ line 0 (1 ∷ []) (40 ∷ [])
     ∷ line 40 (0 ∷ []) (160 ∷ [])
@@ -321,4 +391,4 @@ pub own-gate-touches :
     ∷ line 200 (0 ∷ []) (320 ∷ [])
     ∷ []
 unfolding listing
-own-gate-touches = refl
+own-gate-disturbs = refl

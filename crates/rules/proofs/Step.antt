@@ -18,7 +18,8 @@ use Rattle.format.proofs.Legal.{legal-limits}
 use Rattle.diagram.specs.Table.{never}
 use Rattle.rules.specs.State.{State, valueAt, changeAt, nodeNumbers, isDriven, isInner}
 use Rattle.rules.specs.Arrive.{sourceAt, flips, arrivedChange, arrived}
-use Rattle.rules.specs.Group.{Labels, joined, betweenInner, touched, reconsidered}
+use Rattle.rules.specs.Label.{Labels, joined, betweenInner}
+use Rattle.rules.specs.Reach.{reach, touched, reconsidered}
 use Rattle.rules.specs.Kept.{Channel, conducts, keeps, kept}
 use Rattle.rules.specs.Sum.{Sum, infinite, less, decided, newValue}
 use Rattle.rules.specs.Step.{target, delayBy, delayTo, inHorizon, nextChange, stepped, initial, started}
@@ -73,7 +74,7 @@ input-not-inner c n e = rw e (ap not (or-true (ltb n 2)))
 
 -- and is not reconsidered
 pub input-not-reconsidered : (c : Circuit) (before after : State) (n : ℕ) → isInput c n ≡ true → reconsidered c before after n ≡ false
-input-not-reconsidered c before after n e = ap (λ (b : Bool). b && touched c before after n) (input-not-inner c n e)
+input-not-reconsidered c before after n e = ap (λ (b : Bool). b && touched c (reach c before after) before after n) (input-not-inner c n e)
 
 -- a time after now, cut at the horizon
 horizon-later : (c : Circuit) (now time : ℕ) → now < time → Later c now (inHorizon c time)

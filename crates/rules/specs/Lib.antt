@@ -1,7 +1,9 @@
 pub mod State
 pub mod Arrive
-pub mod Group
+pub mod Label
 pub mod Kept
+pub mod Reach
+pub mod Group
 pub mod Matrix
 pub mod Sum
 pub mod Delay

@@ -7,7 +7,7 @@ use lib.Dec.{eqb}
 use Rattle.format.specs.declared.Transistor.{Transistor}
 use Rattle.format.specs.Circuit.{Circuit, noTransistor}
 use Rattle.rules.specs.State.{State}
-use Rattle.rules.specs.Group.{betweenInner, some}
+use Rattle.rules.specs.Label.{betweenInner, some}
 use Rattle.rules.specs.Kept.{Channel, conducts, kept}
 
 -- transistor i is kept

@@ -10,7 +10,7 @@ use Rattle.format.specs.Circuit.{Circuit, nodeRecord}
 use Rattle.diagram.specs.Table.{never}
 use Rattle.rules.specs.State.{State, valueAt, changeAt, isInner, nodeNumbers}
 use Rattle.rules.specs.Arrive.{sourceAt, arrived}
-use Rattle.rules.specs.Group.{reconsidered}
+use Rattle.rules.specs.Reach.{reconsidered}
 use Rattle.rules.specs.Kept.{Channel, kept}
 use Rattle.rules.specs.Sum.{nodeSum, undriven, newValue}
 use Rattle.rules.specs.Delay.{nodeLoad, inOhms}
