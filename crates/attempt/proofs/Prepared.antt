@@ -2,14 +2,15 @@
 use mathlib.Core.Path.{_≡_, refl, sym, _∙_, ap, subst}
 use mathlib.Core.Logic.{⊎-elim}
 use mathlib.Core.List.{List}
-use mathlib.Core.Bool.{Bool, true, false, not, _||_, cond}
+use mathlib.Core.Bool.{Bool, true, false, not, _&&_, _||_, cond}
 use Prim.Native.Nat.{ℕ, zero, suc, _+_, _<_, _≤_}
 use native.Mathlib.Omega.{arith}
-use lib.ListN.{length, getD, drop, take, length-map, length-take, length-drop, length-replicate}
+use lib.ListN.{length, getD, drop, length-map, length-take, length-drop, length-replicate}
 use lib.Seq.{getD-drop}
 use lib.Dec.{eqb}
 use borrow.Author.Tests.{eqb-true}
-use Rattle.lists.proofs.Cases.{lt-or-ge}
+use Rattle.lists.proofs.Cases.{lt-or-ge, and-left, and-right}
+use Rattle.format.specs.declared.Transistor.{Transistor}
 use Rattle.format.specs.Circuit.{Circuit}
 use Rattle.lists.proofs.Map.{map-at}
 use Rattle.format.proofs.Legal.{LegalCell}
@@ -22,26 +23,27 @@ use Rattle.diagram.proofs.Number.{number-zeroth, number-first}
 use Rattle.diagram.proofs.Store.{store-ext}
 use Rattle.working.specs.Grown.{bit}
 use Rattle.rules.specs.State.{State, valueAt, isInner}
-use Rattle.rules.specs.Group.{reconsidered}
+use Rattle.rules.specs.Label.{labelAt, joined}
+use Rattle.rules.specs.Group.{groups, inGroup}
+use Rattle.rules.specs.Reach.{isSeed, reconsidered}
 use Rattle.rules.specs.Kept.{kept}
 use Rattle.rules.specs.Step.{nextChange}
 use Rattle.rules.proofs.State.{Numbered, Shaped}
-use Rattle.rules.proofs.Label.{all-legal}
+use Rattle.rules.proofs.Label.{joined-alike}
 use Rattle.rules.specs.Matrix as matrix
 use Rattle.net.specs.Net.{at, netCircuit, netGroup}
 use Rattle.net.proofs.Laying.{nodes-length, transistors-length}
-use Rattle.net.specs.Roots.{leafLength, touchedPlace, pendingPlace, rootsLength, allPendingPlace, changePlace}
+use Rattle.net.specs.Roots.{seedsPlace, pendingPlace, rootsLength, changePlace}
 use Rattle.plain.specs.Leaf.{leafState}
 use Rattle.prepare.specs.Steps.{Shows, Bits, considered}
 use Rattle.prepare.specs.Roots.{Roots}
-use Rattle.prepare.proofs.Reading.{laid-legal}
-use Rattle.plain.specs.Settle.{pendingAfter}
-use Rattle.descent.specs.Settle.{leafAt, settledBy, Calm, isOf}
+use Rattle.prepare.proofs.Reading.{laid-legal, laid-label}
+use Rattle.descent.specs.Settle.{leafAt, isSeeded, settledBy, Calm, isOf}
 use Rattle.descent.specs.Descend.{Inner, Rooted}
 use Rattle.descent.proofs.Channels.{leaf-value, leaf-change}
 use Rattle.descent.proofs.Calm.{leaf-calm}
 use Rattle.descent.proofs.Going.{rooted-all}
-use Rattle.descent.proofs.Settled.{Right, settled}
+use Rattle.descent.proofs.Settled.{RightKept, Right, settled}
 use Rattle.attempt.specs.Change.{pendingIn, beforeState, afterState, changeFrom, changeBy}
 use Rattle.attempt.specs.Places.{RootsFor, EntriesOf}
 
@@ -93,8 +95,8 @@ module _ {net : List ℕ} {k : ℕ} {t : Table} {before after pending : List ℕ
   few-nodes = i .cell .within .nodes
 
   -- the numbers of the roots at a pattern, by place
-  root-leaf : (p j : ℕ) → j < leafLength → getD (leafAt k w out p) j 0 ≡ numberAt k w (getD roots j 0) p
-  root-leaf p j h = leaf-at k w out p j (omega (arith, o .long)) ∙ ap (λ (e : ℕ). numberAt k w e p) (o .leaf j h)
+  root-leaf : (p j : ℕ) → j < pendingPlace → getD (leafAt k w out p) j 0 ≡ numberAt k w (getD roots j 0) p
+  root-leaf p j h = leaf-at k w out p j (omega (arith, o .long)) ∙ ap (λ (e : ℕ). numberAt k w e p) (o .first j h)
 
   root-value : (p j : ℕ) → p < patterns k → j < 2 + at net 0 → getD (leafAt k w out p) j 0 ≡ numberAt k t (getD after j 0) p
   root-value p j hp h = root-leaf p j (omega (arith, few-nodes)) ∙ r .value-is j p h hp
@@ -119,17 +121,13 @@ module _ {net : List ℕ} {k : ℕ} {t : Table} {before after pending : List ℕ
   root-used j h =
       let few-node : n < 26 = omega (arith, i .node .most, few-nodes) in
       ⊎-elim
-      (λ (l : j < leafLength). subst (λ (e : ℕ). e < wused) (sym (o .leaf j l)) (r .within j (omega arith)))
-      (λ (g : leafLength ≤ j).
-      ⊎-elim
-      (λ (l : j < pendingPlace). let z : j ≡ touchedPlace = omega arith in rw z (subst (λ (e : ℕ). e < wused) (sym (o .touched)) (r .within (touchedPlace + n) (omega arith))))
-      (λ (l : pendingPlace ≤ j). let z : j ≡ pendingPlace = omega arith in rw z (subst (λ (e : ℕ). e < wused) (sym (o .pending)) (r .within (allPendingPlace + n) (omega arith))))
-      (lt-or-ge j pendingPlace))
-      (lt-or-ge j leafLength)
+      (λ (l : j < pendingPlace). subst (λ (e : ℕ). e < wused) (sym (o .first j l)) (r .within j (omega arith)))
+      (λ (l : pendingPlace ≤ j). let z : j ≡ pendingPlace = omega arith in rw z (subst (λ (e : ℕ). e < wused) (sym (o .pending)) (r .within (pendingPlace + n) (omega arith))))
+      (lt-or-ge j pendingPlace)
 
   -- so a descent may take them
   pub prepared-rooted : Rooted net n k wl ww wh wused out k
-  prepared-rooted = rooted-all i (r .opened .legible) (o .long) root-used (record { calm = λ p hp _. root-calm p hp })
+  prepared-rooted = rooted-all i (r .opened .legible) (o .long) root-used (record { calm = λ p hp. root-calm p hp })
 
   module _ (ground-before : getD before 0 0 ≡ 0) (supply-before : getD before 1 0 ≡ 1) (so : considered only (netGroup net n) ≡ true) {entries : List ℕ} (g : EntriesOf before after pending n entries) where
     inner : isInner c n ≡ true
@@ -162,54 +160,66 @@ module _ {net : List ℕ} {k : ℕ} {t : Table} {before after pending : List ℕ
           shown c (pendingIn time numbers) k t after (at net 0) p (drop 26 numbers) few s size ground supply
           (λ j l h. getD-drop 26 numbers j 0 ∙ entry-at (26 + j) (omega (arith, few-nodes)) ∙ ap (λ (e : ℕ). numberAt k t e p) (g .after-at j (omega (arith, few-nodes))))
 
-      -- the same with the pending change of before T
-      abbrev pended : State
-      pended = leafState c (getD numbers changePlace 0) numbers
+      -- a node of the group has its label
+      module _ (m : ℕ) (near : inGroup c n m ≡ true) where
+        same-label : labelAt (groups c) n ≡ labelAt (groups c) m
+        same-label = joined-alike (groups c) n m (and-right (isInner c m) (joined (groups c) n m) near)
 
-      abbrev touch : Bool
-      touch = all || reconsidered c first then n
+        group-inner : isInner c m ≡ true
+        group-inner = and-left (isInner c m) (joined (groups c) n m) near
 
-      touch-number : getD (leafAt k w out p) touchedPlace 0 ≡ bit touch
-      touch-number =
-          leaf-at k w out p touchedPlace (omega (arith, o .long))
-          ∙ ap (λ (e : ℕ). numberAt k w e p) (o .touched)
-          ∙ r .touched-is n p first then (i .node .most) inner so hp before-shown after-shown
+        module _ (h : Numbered c m) where
+          lt : m < 2 + at net 0
+          lt = omega (arith, h .most, size)
 
-      right : Right c pended then n touch (leafAt k w out p)
+          group-so : considered only (netGroup net m) ≡ true
+          group-so =
+              subst (λ (x : ℕ). considered only x ≡ true)
+              (laid-label net (i .cell) n (i .node .most) inner .0 ∙ same-label ∙ sym (laid-label net (i .cell) m lt group-inner .0)) so
+
+          seed-number : getD (leafAt k w out p) (seedsPlace + m) 0 ≡ bit (all || isSeed c first then m)
+          seed-number = root-leaf p (seedsPlace + m) (omega (arith, lt, few-nodes)) ∙ r .seed-is m p first then lt group-inner group-so hp before-shown after-shown
+
+          -- where it is a seed, the transistors of the group are kept as the rule says
+          group-keeps : isSeeded (leafAt k w out p) m ≡ true → RightKept c then n (leafAt k w out p)
+          group-keeps e j hj of =
+              root-leaf p (26 + j) (omega (arith, hj, transistors-length net, i .cell .within .transistors))
+              ∙ r .kept-is m j p then lt group-inner group-so hp after-shown
+              (sym (root-leaf p (seedsPlace + m) (omega (arith, lt, few-nodes))) ∙ eqb-true (getD (leafAt k w out p) (seedsPlace + m) 0) 1 e)
+              (omega (arith, hj, transistors-length net))
+              (subst (λ (x : ℕ). (isInner c (t-at j .first) && eqb x (labelAt (groups c) (t-at j .first))) || (isInner c (t-at j .second) && eqb x (labelAt (groups c) (t-at j .second))) ≡ true) same-label of)
+              ∙ ap bit (kept-test c then j)
+            where
+              t-at : ℕ → Transistor
+              t-at x = matrix.transistorAt c x
+
+      right : Right c first then (getD numbers changePlace 0) n all (leafAt k w out p)
       right = record {
         values = λ j h. root-value p j hp (omega (arith, h .most, size)) ∙ sym (after-shown j (omega (arith, h .most, size)));
-        touch = ap (λ (v : ℕ). eqb v 1) touch-number ∙ bit-test touch;
-        pending =
+        seeds = λ m h near. ap (λ (v : ℕ). eqb v 1) (seed-number m near h) ∙ bit-test (all || isSeed c first then m);
+        pends =
             leaf-at k w out p pendingPlace (omega (arith, o .long))
             ∙ ap (λ (e : ℕ). numberAt k w e p) (o .pending)
             ∙ r .pending-is n p (i .node .most) hp
             ∙ ap (λ (e : ℕ). numberAt k t e p) (sym (g .pending-at))
-            ∙ sym (entry-at changePlace (omega arith))
-            ∙ sym (leaf-change c (getD numbers changePlace 0) numbers n own);
-        keeps = λ e j h of.
-            ap (λ (v : ℕ). eqb v 1)
-            (root-leaf p (26 + j) (omega (arith, h, transistors-length net, i .cell .within .transistors))
-            ∙ r .kept-is n j p then (i .node .most) inner so hp after-shown
-            (ap (λ (x : ℕ). numberAt k w x p) (sym (o .touched)) ∙ sym (leaf-at k w out p touchedPlace (omega (arith, o .long))) ∙ touch-number ∙ ap bit e)
-            (omega (arith, h, transistors-length net)) of)
-            ∙ bit-test (matrix.isKept c then j)
-            ∙ kept-test c then j;
+            ∙ sym (entry-at changePlace (omega arith));
+        keeps = λ m h near e. group-keeps m near h e;
       }
 
       then-shaped : Shaped c then
       then-shaped =
           let long : length numbers ≡ rootsLength = length-map entries (λ (e : ℕ). numberAt k t e p) ∙ g .long in
-          let one : length (drop 26 numbers) ≡ 66 = simp length-drop (omega arith) in
-          let two : length (drop 2 (drop 26 numbers)) ≡ 64 = simp length-drop (omega arith) in
+          let one : length (drop 26 numbers) ≡ 91 = simp length-drop (omega arith) in
+          let two : length (drop 2 (drop 26 numbers)) ≡ 89 = simp length-drop (omega arith) in
           record { values-long = simp length-take (omega (arith, size, few-nodes)); changes-long = length-replicate (length (c .nodes)) (pendingIn time numbers) }
 
       -- what the roots settle at a pattern is the next change by the entries
       pub prepared-settles : settledBy (netCircuit net) time n k (held wl ww wh wused) out p ≡ changeBy (netCircuit net) time all n k t entries p
       unfolding changeFrom
       prepared-settles =
-          settled c (all-legal legal) n inner own (leafAt k w out p) time pended then touch then-shaped
-          (leaf-change c (pendingIn time numbers) (drop 26 numbers) n own ∙ sym (ap (pendingAfter time) (leaf-change c (getD numbers changePlace 0) numbers n own))) right
-          ∙ ap (λ (q : ℕ). cond touch (nextChange c time then (kept c then) n) q) (leaf-change c (pendingIn time numbers) (drop 26 numbers) n own)
+          settled c legal n inner own (leafAt k w out p) time first then (getD numbers changePlace 0) all then-shaped
+          (leaf-change c (pendingIn time numbers) (drop 26 numbers) n own) right
+          ∙ ap (λ (q : ℕ). cond (all || reconsidered c first then n) (nextChange c time then (kept c then) n) q) (leaf-change c (pendingIn time numbers) (drop 26 numbers) n own)
 
     -- so the same is stored
     pub prepared-store : (time : ℕ) (u : Table) → store k 0 (settledBy (netCircuit net) time n k (held wl ww wh wused) out) u ≡ store k 0 (changeBy (netCircuit net) time all n k t entries) u

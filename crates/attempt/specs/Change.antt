@@ -6,7 +6,7 @@ use lib.ListN.{getD, drop}
 use Rattle.format.specs.Circuit.{Circuit}
 use Rattle.diagram.specs.Table.{Table}
 use Rattle.rules.specs.State.{State}
-use Rattle.rules.specs.Group.{reconsidered}
+use Rattle.rules.specs.Reach.{reconsidered}
 use Rattle.rules.specs.Kept.{kept}
 use Rattle.rules.specs.Step.{nextChange}
 use Rattle.net.specs.Roots.{afterPlace, changePlace}

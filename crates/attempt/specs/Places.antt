@@ -3,14 +3,13 @@ use mathlib.Core.Path.{_≡_}
 use mathlib.Core.List.{List}
 use Prim.Native.Nat.{ℕ, _+_, _<_}
 use lib.ListN.{length, getD}
-use Rattle.net.specs.Roots.{leafLength, touchedPlace, pendingPlace, rootsLength, allPendingPlace, afterPlace, changePlace}
+use Rattle.net.specs.Roots.{pendingPlace, rootsLength, afterPlace, changePlace}
 
--- values and kept functions of all, the touched function and the next change of node n alone
+-- values, kept functions and seeds of all, the next change of node n alone
 pub record RootsFor (roots : List ℕ) (n : ℕ) (out : List ℕ) : Type 0 where
   pub long : length out ≡ rootsLength
-  pub leaf : (j : ℕ) → j < leafLength → getD out j 0 ≡ getD roots j 0
-  pub touched : getD out touchedPlace 0 ≡ getD roots (touchedPlace + n) 0
-  pub pending : getD out pendingPlace 0 ≡ getD roots (allPendingPlace + n) 0
+  pub first : (j : ℕ) → j < pendingPlace → getD out j 0 ≡ getD roots j 0
+  pub pending : getD out pendingPlace 0 ≡ getD roots (pendingPlace + n) 0
 
 -- 26 entries from a place on
 pub record PartOf (entries : List ℕ) (from : ℕ) (out : List ℕ) : Type 0 where

@@ -3,13 +3,10 @@
 // Internal to our crates: the length of working decides only which way is gone (crate evaluate has the other).
 use descent::descend::descend;
 use net::roots::AFTER;
-use net::roots::ALL_PENDING;
 use net::roots::ALL_ROOTS;
 use net::roots::CHANGE;
-use net::roots::LEAF;
 use net::roots::PENDING;
 use net::roots::ROOTS;
-use net::roots::TOUCHED;
 use prepare::prepare;
 use table::Put;
 use table::Stop;
@@ -42,12 +39,11 @@ pub fn roots_for(roots: [u32; ALL_ROOTS], n: usize) -> [u32; ROOTS]
 {
     let mut out = [0u32; ROOTS];
     let mut j = 0;
-    while j < LEAF {
+    while j < PENDING {
         out[j] = roots[j];
         j += 1;
     }
-    out[TOUCHED] = roots[TOUCHED + n];
-    out[PENDING] = roots[ALL_PENDING + n];
+    out[PENDING] = roots[PENDING + n];
     out
 }
 

@@ -22,7 +22,7 @@ use stir::marks::stirred_nodes;
 use stir::rest::all_at_rest;
 use values::Many;
 
-// The next changes at T with every group looked at.
+// The next changes at T with every node looked at.
 fn reconsider(
     net: &[u32],
     letter: &mut [u32],
@@ -88,7 +88,7 @@ fn reconsider(
     )
 }
 
-// The next changes at T, by entries of the lent table by node number; every group is touched where `all`.
+// The next changes at T, by entries of the lent table by node number; every inner node is reconsidered where `all`.
 // `least` has the least numbers of the pending changes.
 pub fn changes(
     net: &[u32],

@@ -12,11 +12,11 @@ use Rattle.lists.proofs.Cases.{bool-cases, lt-or-ge}
 use Rattle.format.specs.declared.Transistor.{Transistor}
 use Rattle.format.specs.Circuit.{Circuit, noTransistor}
 use Rattle.rules.specs.State.{State, valueAt, changeAt, nodeNumbers}
-use Rattle.rules.specs.Group.{Labels, some}
+use Rattle.rules.specs.Label.{Labels, some, only}
 use Rattle.rules.specs.Kept.{Channel, keeps, afterKept, keptFrom, kept}
 use Rattle.rules.proofs.State.{Numbered, Shaped}
 use Rattle.rules.proofs.Forest.{numbered}
-use Rattle.rules.proofs.Local.{only, touches}
+use Rattle.rules.proofs.Local.{touches}
 use Rattle.plain.specs.Leaf.{keptBy, leafState}
 use Rattle.plain.proofs.Arms.{by-ext}
 use Rattle.descent.specs.Settle.{isOf}

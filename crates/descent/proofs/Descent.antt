@@ -8,16 +8,25 @@ use Rattle.diagram.specs.Table.{Table, terminalLetter, terminal}
 use Rattle.diagram.specs.Store.{add, store}
 use Rattle.diagram.specs.Held.{held}
 use Rattle.net.specs.Net.{netCircuit}
+use Rattle.net.specs.Roots.{pendingPlace}
 use Rattle.table.specs.declared.Put.{Put}
 use Rattle.table.specs.Stop.{stopped}
 use Rattle.table.specs.Holds.{Outcome}
 use Rattle.functions.specs.Open.{Open}
 use Rattle.functions.proofs.Carry.{legible-sound}
 use Rattle.functions.proofs.Halving.{Halves, low-full}
-use Rattle.descent.specs.Settle.{settledAt, settledBy}
+use Rattle.descent.specs.Settle.{pendingBy, settledAt, settledBy}
 use Rattle.descent.specs.Piece.{Narrowed}
-use Rattle.descent.specs.Descend.{Least, HalfOf, lowOf, LeafOf, Rooted}
+use Rattle.descent.specs.Descend.{Least, HalfOf, lowOf, LeafOf, Rooted, NoSeed}
+use Rattle.descent.proofs.Pending.{quiet-stored}
 use Rattle.descent.proofs.Going.{half-of, zero-letter, narrow-ready, narrow-store, ready-leaf, leaf-store, going-left, going-halves, low-ready, high-ready}
+
+-- none of the roots that matter is a seed's
+pub narrow-quiet : {net : List ℕ} {n k : ℕ} {l w h : List ℕ} {used : ℕ} {roots : List ℕ} {left : ℕ} (r : Rooted net n k l w h used roots left) {kept : List ℕ}
+    → Narrowed (netCircuit net) n roots kept → NoSeed kept → (time : ℕ) {u : Table} {l1 w1 h1 ix1 : List ℕ} {p : Put}
+    → Outcome u (store k 0 (pendingBy time k (held l w h used) (getD kept pendingPlace 0)) u) l1 w1 h1 ix1 p
+    → Outcome u (store k 0 (settledBy (netCircuit net) time n k (held l w h used) roots) u) l1 w1 h1 ix1 p
+narrow-quiet r s none time {u} done = rw (← narrow-store r s time u) (quiet-stored (narrow-ready r s) none time done)
 
 module _ {net : List ℕ} {n k : ℕ} {l w h : List ℕ} {used : ℕ} {roots : List ℕ} {left : ℕ} (r : Rooted net n k l w h used roots left)
     {kept : List ℕ} (s : Narrowed (netCircuit net) n roots kept) {m : ℕ} (least : Least l kept m) where

@@ -26,7 +26,7 @@ use Rattle.net.specs.Roots.{rootsLength}
 use Rattle.functions.specs.Open.{Legible, Operand}
 use Rattle.functions.proofs.Carry.{legible-sound, legible-long, letter-at, low-at, high-at, branch-letter, past-letter}
 use Rattle.functions.proofs.Halving.{Halves}
-use Rattle.descent.specs.Settle.{leafAt, isTouched, settledAt, settledBy, Roots, Calm, AllCalm}
+use Rattle.descent.specs.Settle.{leafAt, settledAt, settledBy, Roots, Calm, AllCalm}
 use Rattle.descent.specs.Piece.{Narrowed}
 use Rattle.descent.specs.Descend.{Inner, Entries, Least, HalfOf, NumbersOf, lowOf, LeafOf, Settleable, Rooted}
 
@@ -43,7 +43,7 @@ numbers-low {low} {roots} {out} lr h = by-roots (λ (e : ℕ). getD low e 0) roo
 pub leaf-settleable : {net low roots out : List ℕ} {n : ℕ} → LeafOf net n low roots → NumbersOf low roots out → Settleable net n out
 leaf-settleable {net} {low} {roots} {out} {n} l h =
     let e : out ≡ lowOf low roots = numbers-low (l .entries .long) h in
-    record { node = l .node; long = h .long; calm = subst (λ (xs : List ℕ). isTouched xs ≡ true → Calm (netCircuit net) xs) (sym e) (l .calm) }
+    record { node = l .node; long = h .long; calm = subst (Calm (netCircuit net)) (sym e) (l .calm) }
 
 pub leaf-number : {net low roots out : List ℕ} {n : ℕ} (time v : ℕ) → LeafOf net n low roots → NumbersOf low roots out → v ≡ settledAt (netCircuit net) time n out → v ≡ settledAt (netCircuit net) time n (lowOf low roots)
 leaf-number {net} {low} {roots} {out} {n} time v l h e = e ∙ ap (settledAt (netCircuit net) time n) (numbers-low (l .entries .long) h)
@@ -118,7 +118,7 @@ module _ {net : List ℕ} {n k : ℕ} {l w h : List ℕ} {used : ℕ} {roots : L
           (λ (e : getD out j 0 ≡ getD roots j 0). subst (Operand k t used left) (sym e) (r .operand j g))
           (λ (e : getD out j 0 ≡ 0). subst (Operand k t used left) (sym e) zero-operand)
           (s .either j g);
-      calm = record { calm = λ p g e. s .calm k t ready-roots p e (r .calm .calm p g (s .touch k t ready-roots p e)) };
+      calm = record { calm = λ p g. s .calm k t ready-roots p (r .calm .calm p g) };
     }
 
     -- the same is stored
@@ -144,7 +144,7 @@ module _ {net : List ℕ} {n k : ℕ} {l w h : List ℕ} {used : ℕ} {roots : L
       ready-leaf = record {
         entries = ready-entries w (r .working .low-long);
         node = r .node;
-        calm = subst (λ (xs : List ℕ). isTouched xs ≡ true → Calm c xs) (same-numbers 0) (r .calm .calm 0 (pow-pos k));
+        calm = subst (Calm c) (same-numbers 0) (r .calm .calm 0 (pow-pos k));
       }
 
       pub leaf-store : (time : ℕ) (u : Table) → store k 0 (settledBy (netCircuit net) time n k (held l w h used) roots) u ≡ add (terminal (settledAt (netCircuit net) time n (lowOf w roots))) u
@@ -201,7 +201,7 @@ module _ {net : List ℕ} {n k : ℕ} {l w h : List ℕ} {used : ℕ} {roots : L
                 from = omega (arith, part-larger t m (getD roots j 0) bit sound terminal-past (omega (arith, within j g, long)) (from-letter j g), r .operand j g .from, going-left, going-room);
               });
           calm = record {
-            calm = λ p g. subst (λ (xs : List ℕ). isTouched xs ≡ true → Calm c xs) (sym (half-numbers p)) (r .calm .calm (withLetter m bit p) (with-lt k m bit p g going-small one));
+            calm = λ p g. subst (Calm c) (sym (half-numbers p)) (r .calm .calm (withLetter m bit p) (with-lt k m bit p g going-small one));
           };
         }
 

@@ -1,7 +1,7 @@
 -- The first of a pattern's numbers are a leaf, and settle what all of them do.
 use mathlib.Core.Path.{_≡_, sym, _∙_, ap}
 use mathlib.Core.List.{List}
-use mathlib.Core.Bool.{true, cond}
+use mathlib.Core.Bool.{cond}
 use Prim.Native.Nat.{ℕ, _+_, _-_, _<_, _≤_}
 use native.Mathlib.Omega.{arith}
 use lib.ListN.{length, take, drop, replicate, length-take, length-drop}
@@ -13,7 +13,7 @@ use Rattle.plain.specs.Leaf.{isKept, leafState, leafChannels, leafChange}
 use Rattle.plain.specs.Ready.{Net, Ready}
 use Rattle.net.proofs.Laying.{nodes-length, transistors-length}
 use Rattle.net.specs.Roots.{leafLength, rootsLength}
-use Rattle.descent.specs.Settle.{isTouched, pendingOf, settledAt}
+use Rattle.descent.specs.Settle.{isReached, pendingOf, settledAt}
 use Rattle.descent.specs.Descend.{Settleable}
 use Rattle.plain.proofs.Arms.{by-ext}
 
@@ -49,16 +49,15 @@ module _ {net : List ℕ} {n : ℕ} {numbers : List ℕ} (h : Settleable net n n
       by-ext (isKept (take leafLength numbers)) (isKept numbers) 0 (c .transistors)
       (λ j _ l. ap (λ (v : ℕ). eqb v 1) (getD-take leafLength numbers (26 + j) 0 (omega (arith, transistors-length net, cell .within .transistors))))
 
-  module _ (touched : isTouched numbers ≡ true) where
-    -- they are ready for the walks
-    pub first-ready : Ready net (take leafLength numbers)
-    first-ready = record {
-      cell = cell;
-      numbers = h .calm touched .leaf;
-      charges = rw (state-first 0, channels-first) (h .calm touched .charges);
-    }
+  -- they are ready for the walks
+  pub first-ready : Ready net (take leafLength numbers)
+  first-ready = record {
+    cell = cell;
+    numbers = h .calm .leaf;
+    charges = rw (state-first 0, channels-first) (h .calm .charges);
+  }
 
   -- and give the same next change
-  pub first-settles : (time v : ℕ) → v ≡ cond (isTouched numbers) (leafChange net (take leafLength numbers) time (pendingOf time numbers) n) (pendingOf time numbers) → v ≡ settledAt (netCircuit net) time n numbers
+  pub first-settles : (time v : ℕ) → v ≡ cond (isReached (netCircuit net) n numbers) (leafChange net (take leafLength numbers) time (pendingOf time numbers) n) (pendingOf time numbers) → v ≡ settledAt (netCircuit net) time n numbers
   unfolding settledAt
   first-settles time v e = e ∙ rw (state-first (pendingOf time numbers), channels-first)

@@ -1,9 +1,11 @@
 pub mod Channels
 pub mod Settled
 pub mod Calm
+pub mod Reaching
 pub mod Fill
 pub mod Listed
 pub mod Search
+pub mod Seeds
 pub mod Matters
 pub mod Narrow
 pub mod Leaf

@@ -126,18 +126,18 @@ module _ {F : ℕ → ℕ} {live : List ℕ} {count i : ℕ} {list : List ℕ} {
       (bool-cases (eqb v 0)))
 
 -- the roots that matter, and the list of them
-module _ {roots live : List ℕ} {count : ℕ} (r : Live roots live count) (net marks : List ℕ) where
+module _ {roots live : List ℕ} {count : ℕ} (r : Live roots live count) (net marks : List ℕ) (sole : ℕ) where
   abbrev K : ℕ → ℕ
-  K j = cond (matters net marks j) (getD roots j 0) 0
+  K j = cond (matters net marks sole j) (getD roots j 0) 0
 
-  lost : (j : ℕ) → j < rootsLength → (cond (matters net marks j) (getD roots j 0) 0 ≡ 0) ⊎ Listed live count j
-  lost j h = ⊎-elim (λ (z : getD roots j 0 ≡ 0). inl (cond-zero (matters net marks j) (getD roots j 0) z)) (λ (l : Listed live count j). inr l) (r .listed j h)
+  lost : (j : ℕ) → j < rootsLength → (cond (matters net marks sole j) (getD roots j 0) 0 ≡ 0) ⊎ Listed live count j
+  lost j h = ⊎-elim (λ (z : getD roots j 0 ≡ 0). inl (cond-zero (matters net marks sole j) (getD roots j 0) z)) (λ (l : Listed live count j). inr l) (r .listed j h)
 
-  module _ {out : List ℕ} {i : ℕ} (f : FilledAt (λ (j : ℕ). cond (matters net marks j) (getD roots j 0) 0) live count i out) (end : count ≤ i) where
-    pub keep-selected : Selected net roots marks out
+  module _ {out : List ℕ} {i : ℕ} (f : FilledAt (λ (j : ℕ). cond (matters net marks sole j) (getD roots j 0) 0) live count i out) (end : count ≤ i) where
+    pub keep-selected : Selected net roots marks sole out
     keep-selected = record { long = f .long; is = at-all f end lost }
 
-    pub keep-live : {list : List ℕ} {total : ℕ} → KeptTo (λ (j : ℕ). cond (matters net marks j) (getD roots j 0) 0) live i list total → i ≤ count → Live out list total
+    pub keep-live : {list : List ℕ} {total : ℕ} → KeptTo (λ (j : ℕ). cond (matters net marks sole j) (getD roots j 0) 0) live i list total → i ≤ count → Live out list total
     keep-live {list} {total} k last = record {
       long = f .long;
       places = record { long = k .long; few = omega (arith, k .fewer, r .places .few); place = k .place };

@@ -1,11 +1,14 @@
--- Where no pattern is touched the pending change with T taken out is stored, by the recursion on its entry.
+-- Where no node is a seed the pending change with T taken out is stored, by the recursion on its entry.
 use mathlib.Core.Path.{_≡_, refl, sym, _∙_, ap, subst₂}
+use mathlib.Core.Logic.{⊎-elim}
 use mathlib.Core.List.{List}
 use mathlib.Core.Bool.{Bool, true, false, cond}
-use Prim.Native.Nat.{ℕ, suc, _<_}
+use Prim.Native.Nat.{ℕ, suc, _+_, _<_}
 use native.Mathlib.Omega.{arith}
 use lib.ListN.{length, getD}
 use lib.Dec.{eqb}
+use borrow.Author.Tests.{eqb-true}
+use Rattle.lists.proofs.Cases.{bool-cases}
 use Rattle.diagram.specs.Pattern.{letterAt}
 use Rattle.diagram.specs.Table.{Table, terminalLetter, terminal, entryAt, numberAt}
 use Rattle.diagram.specs.Store.{add, store}
@@ -15,16 +18,18 @@ use Rattle.diagram.proofs.Number.{part-low, part-high, number-terminal}
 use Rattle.diagram.proofs.Store.{store-number, store-ext}
 use Rattle.diagram.proofs.Shannon.{split, store-halves, number-past, number-split}
 use Rattle.net.specs.Net.{netCircuit}
-use Rattle.net.specs.Roots.{touchedPlace, pendingPlace}
+use Rattle.net.specs.Roots.{seedsPlace, pendingPlace}
+use Rattle.net.proofs.Laying.{nodes-length}
 use Rattle.table.specs.declared.Put.{Put}
 use Rattle.table.specs.Holds.{Outcome}
 use Rattle.functions.specs.Open.{Legible, Operand}
 use Rattle.functions.proofs.Carry.{legible-sound, legible-long, letter-at, low-at, high-at}
 use Rattle.functions.proofs.Halving.{Halves}
 use Rattle.plain.specs.Settle.{pendingAfter}
-use Rattle.descent.specs.Settle.{leafAt, isTouched, pendingBy, settledBy}
-use Rattle.descent.specs.Descend.{Rooted}
+use Rattle.descent.specs.Settle.{leafAt, isReached, pendingBy, settledBy}
+use Rattle.descent.specs.Descend.{Rooted, NoSeed}
 use Rattle.descent.proofs.Narrow.{number-root, number-zero, unsettled}
+use Rattle.descent.proofs.Reaching.{reached-seed}
 
 -- a pending change of one of two numbers
 pending-both : (time : ℕ) (b : Bool) (x y : ℕ) → pendingAfter time (cond b x y) ≡ cond b (pendingAfter time x) (pendingAfter time y)
@@ -71,16 +76,23 @@ module _ {letters : ℕ} {l w h : List ℕ} {used : ℕ} (o : Legible letters l 
       stable = λ v z y. refl;
     }
 
--- roots that are touched nowhere
-module _ {net : List ℕ} {n k : ℕ} {l w h : List ℕ} {used : ℕ} {roots : List ℕ} {left : ℕ} (r : Rooted net n k l w h used roots left) (still : getD roots touchedPlace 0 ≡ 0) where
+-- roots without a seed
+module _ {net : List ℕ} {n k : ℕ} {l w h : List ℕ} {used : ℕ} {roots : List ℕ} {left : ℕ} (r : Rooted net n k l w h used roots left) (still : NoSeed roots) where
   -- settle the pending change
   settled-pending : (time p : ℕ) → settledBy (netCircuit net) time n k (held l w h used) roots p ≡ pendingBy time k (held l w h used) (getD roots pendingPlace 0) p
   settled-pending time p =
       let t : Table = held l w h used in
-      let untouched : isTouched (leafAt k t roots p) ≡ false =
-      ap (λ (v : ℕ). eqb v 1)
-      (number-root k t p roots (r .long) touchedPlace (omega arith) ∙ ap (λ (e : ℕ). numberAt k t e p) still ∙ number-zero k t p (r .working .few) (legible-sound (r .working))) in
-      unsettled (netCircuit net) time n (leafAt k t roots p) untouched ∙ ap (pendingAfter time) (number-root k t p roots (r .long) pendingPlace (omega arith))
+      let none : isReached (netCircuit net) n (leafAt k t roots p) ≡ false =
+      ⊎-elim
+      (λ (e : isReached (netCircuit net) n (leafAt k t roots p) ≡ true).
+      let s = reached-seed (netCircuit net) n (leafAt k t roots p) e in
+      let few : s .0 < 26 = omega (arith, s .1 .most, nodes-length net, r .node .cell .within .nodes) in
+      let zero : getD (leafAt k t roots p) (seedsPlace + s .0) 0 ≡ 0 =
+      number-root k t p roots (r .long) (seedsPlace + s .0) (omega arith) ∙ ap (λ (e : ℕ). numberAt k t e p) (still (s .0) few) ∙ number-zero k t p (r .working .few) (legible-sound (r .working)) in
+      absurd (omega (arith, eqb-true (getD (leafAt k t roots p) (seedsPlace + s .0) 0) 1 (s .2))))
+      (λ (e : isReached (netCircuit net) n (leafAt k t roots p) ≡ false). e)
+      (bool-cases (isReached (netCircuit net) n (leafAt k t roots p))) in
+      unsettled (netCircuit net) time n (leafAt k t roots p) none ∙ ap (pendingAfter time) (number-root k t p roots (r .long) pendingPlace (omega arith))
 
   pub quiet-stored : (time : ℕ) {u : Table} {l1 w1 h1 ix1 : List ℕ} {p : Put}
       → Outcome u (store k 0 (pendingBy time k (held l w h used) (getD roots pendingPlace 0)) u) l1 w1 h1 ix1 p

@@ -14,12 +14,15 @@ use Rattle.lists.proofs.Cases.{bool-cases, lt-or-ge, eq-or-ne, true-false}
 use Rattle.lists.proofs.Count.{count-ext, count-le, count-none}
 use Rattle.rules.specs.State.{isDriven}
 use Rattle.rules.specs.Sum.{farEnd}
+use Rattle.rules.proofs.Label.{Joined, joined-refl, joined-trans}
 use Rattle.net.specs.Net.{nodesPlace, transistorsPlace, at, netTransistor, netCircuit, netArms}
 use Rattle.plain.specs.Leaf.{netChannel}
 use Rattle.net.specs.Laid.{TransistorWithin}
 use Rattle.plain.specs.Ready.{Net}
 use Rattle.descent.specs.Descend.{Inner}
-use Rattle.descent.specs.Piece.{marksLength, isIn, isNear, isOff, Beside, Crossed, AllCrossed, Found, Searched, Piece}
+use Rattle.descent.specs.Settle.{isOff, parts}
+use Rattle.descent.specs.Piece.{marksLength, isIn, isNear, Beside, Crossed, AllCrossed, Found, Searched, Within, StaysIn, isEndOf, Piece}
+use Rattle.descent.proofs.Reaching.{crossed-joined}
 
 -- where one number does not pass, not all are counted
 count-missing : (n : ℕ) (f : ℕ → Bool) (i : ℕ) → i < n → f i ≡ false → countBelow n f < n
@@ -70,7 +73,7 @@ module _ {net marks list : List ℕ} {count : ℕ} (h : Found net marks list cou
       out-of : isIn marks y ≡ false
       out-of = ⊎-elim (λ (e : isIn marks y ≡ true). true-false (isDriven (netCircuit net) y) driven (h .inner y e)) (λ (e : isIn marks y ≡ false). e) (bool-cases (isIn marks y))
 
-      in-same : (m : ℕ) → isIn (set marks y 2) m ≡ isIn marks m
+      pub in-same : (m : ℕ) → isIn (set marks y 2) m ≡ isIn marks m
       in-same m =
           ⊎-elim
           (λ (q : m ≡ y). rw q (ap (λ (v : ℕ). eqb v 1) (set-same 2) ∙ sym out-of))
@@ -113,7 +116,7 @@ module _ {net marks list : List ℕ} {count : ℕ} (h : Found net marks list cou
       in-other m n = ap (λ (v : ℕ). eqb v 1) (set-other 1 m n)
 
       -- what holds of the nodes found so far and of the new one
-      each : (P : ℕ → Type 0) → P y → ((m : ℕ) → isIn marks m ≡ true → P m) → (m : ℕ) → isIn (set marks y 1) m ≡ true → P m
+      pub each : (P : ℕ → Type 0) → P y → ((m : ℕ) → isIn marks m ≡ true → P m) → (m : ℕ) → isIn (set marks y 1) m ≡ true → P m
       each P new old m e =
           ⊎-elim
           (λ (q : m ≡ y). subst P (sym q) new)
@@ -172,12 +175,12 @@ module _ {net marks list : List ℕ} {count : ℕ} (h : Found net marks list cou
           (λ (e : isIn marks y ≡ false). rw e (searched-new own node e, now-in own node e))
           (bool-cases (isIn marks y)))
 
--- crossing transistor i from node x to node y
+-- crossing transistor i from node x of the piece to node y
 module _ {net marks list : List ℕ} {count : ℕ} (cell : Net net) (h : Found net marks list count) (roots : List ℕ) (x i y : ℕ)
-    (few : i < at net transistorsPlace) (is : y ≡ farEnd x (netChannel net i)) where
+    (few : (i < at net transistorsPlace) × (isEndOf net i x ≡ true) × (isIn marks x ≡ true)) (is : y ≡ farEnd x (netChannel net i)) where
   pub far-small : y < 2 + at net nodesPlace
   far-small =
-      let placed : TransistorWithin (at net nodesPlace) (netTransistor net i) = cell .within .transistor i few in
+      let placed : TransistorWithin (at net nodesPlace) (netTransistor net i) = cell .within .transistor i (few .0) in
       rw is (by (eqb (netTransistor net i .first) x) (placed .first) (placed .second))
     where
       by : (b : Bool) {m n k : ℕ} → m < k → n < k → cond b n m < k
@@ -191,19 +194,31 @@ module _ {net marks list : List ℕ} {count : ℕ} (cell : Net net) (h : Found n
   cross-room = found-room h y far-marked
 
   -- a driven end is marked
-  pub cross-driven : isDriven (netCircuit net) y ≡ true → Searched net marks list count (set marks y 2) list count × Crossed net roots (set marks y 2) x i
+  pub cross-driven : isDriven (netCircuit net) y ≡ true → Searched net marks list count (set marks y 2) list count × (Crossed net roots (set marks y 2) x i × StaysIn net roots marks (set marks y 2))
   cross-driven d = (
     searched-driven h y far-marked d,
-    λ on. subst (Beside (netCircuit net) (set marks y 2)) is (inr (d, driven-near h y far-marked d)),
+    (λ on. subst (Beside (netCircuit net) (set marks y 2)) is (inr (d, driven-near h y far-marked d)), λ n w m e. w m (sym (in-same h y far-marked d m) ∙ e)),
   )
 
   -- an inner node is found
-  pub cross-noted : isDriven (netCircuit net) y ≡ false → {marks′ list′ : List ℕ} {count′ : ℕ}
+  pub cross-noted : isOff roots i ≡ false → isDriven (netCircuit net) y ≡ false → {marks′ list′ : List ℕ} {count′ : ℕ}
       → count′ ≡ cond (isIn marks y) count (count + 1) → marks′ ≡ cond (isIn marks y) marks (set marks y 1) → list′ ≡ cond (isIn marks y) list (set list count y)
-      → Searched net marks list count marks′ list′ count′ × Crossed net roots marks′ x i
-  cross-noted d {marks′} ec em el =
+      → Searched net marks list count marks′ list′ count′ × (Crossed net roots marks′ x i × StaysIn net roots marks marks′)
+  cross-noted off d {marks′} ec em el =
       let noted = searched-note h y far-marked d far-small ec em el in
-      (noted .0, λ on. subst (Beside (netCircuit net) marks′) is (inl (noted .1)))
+      (noted .0, (λ on. subst (Beside (netCircuit net) marks′) is (inl (noted .1)), λ n w. subst (Within net roots n) (sym em) (stays n w)))
+    where
+      -- the new node is joined to x, and x is of the piece
+      beside : Joined (parts (netCircuit net) roots) x y
+      beside = subst (Joined (parts (netCircuit net) roots) x) (sym is) (crossed-joined cell roots x i (few .0) (few .1) off (h .inner x (few .2)) (subst (λ (z : ℕ). isDriven (netCircuit net) z ≡ false) is d))
+
+      stays : (n : ℕ) → Within net roots n marks → Within net roots n (cond (isIn marks y) marks (set marks y 1))
+      stays n w =
+          ⊎-elim
+          (λ (e : isIn marks y ≡ true). rw e w)
+          (λ (e : isIn marks y ≡ false).
+          rw e (each h y far-marked d far-small e (λ (m : ℕ). Joined (parts (netCircuit net) roots) n m) (joined-trans (parts (netCircuit net) roots) n x y (w x (few .2)) beside) w))
+          (bool-cases (isIn marks y))
 
 -- a transistor that is off is crossed
 pub crossed-off : (net roots marks : List ℕ) (x i : ℕ) → getD roots (26 + i) 0 ≡ 0 → Crossed net roots marks x i
@@ -245,10 +260,11 @@ pub record Spread (net roots : List ℕ) (n : ℕ) (head : ℕ) (marks list : Li
   pub own : isIn marks n ≡ true
   pub within : head ≤ count
   pub done : (j : ℕ) → j < head → AllCrossed net roots marks (getD list j 0)
+  pub reached : Within net roots n marks
 
 -- one node more
 pub spread-next : {net roots marks list marks′ list′ : List ℕ} {n head count count′ : ℕ} → Spread net roots n head marks list count → head < count
-    → Searched net marks list count marks′ list′ count′ → AllCrossed net roots marks′ (getD list head 0) → Spread net roots n (head + 1) marks′ list′ count′
+    → Searched net marks list count marks′ list′ count′ → AllCrossed net roots marks′ (getD list head 0) × StaysIn net roots marks marks′ → Spread net roots n (head + 1) marks′ list′ count′
 spread-next {net} {roots} {marks} {list} {marks′} {list′} {n} {head} {count} {count′} s more g a = record {
   found = g .found;
   own = g .grew .inside n (s .own);
@@ -257,8 +273,9 @@ spread-next {net} {roots} {marks} {list} {marks′} {list′} {n} {head} {count}
       rw (g .grew .same j (omega (arith, s .within)))
       (⊎-elim
       (λ (b : j < head). λ k q. crossed-stays g roots (getD list j 0) (getD (netArms net (getD list j 0)) k 0) (s .done j b k q))
-      (λ (b : head ≤ j). let q : j ≡ head = omega arith in rw q a)
+      (λ (b : head ≤ j). let q : j ≡ head = omega arith in rw q (a .0))
       (lt-or-ge j head));
+  reached = a .1 n (s .reached);
 }
 
 -- all nodes: the piece is closed
@@ -269,7 +286,15 @@ spread-all {net} {roots} {marks} {list} {n} {head} {count} s all = record {
   inner = s .found .inner;
   small = s .found .small;
   closed = λ m e. let at = s .found .listed m e in subst (AllCrossed net roots marks) (at .2) (s .done (at .0) (omega (arith, at .1)));
+  within = s .reached;
 }
+
+none : (m : ℕ) → isIn (replicate 26 0) m ≡ false
+none m =
+    ⊎-elim
+    (λ (h : m < 26). ap (λ (v : ℕ). eqb v 1) (getD-replicate 26 m 0 0 h))
+    (λ (h : 26 ≤ m). ap (λ (v : ℕ). eqb v 1) (List·getD-eq-default (replicate 26 0) 0 h))
+    (lt-or-ge m 26)
 
 -- no node is found at first
 pub found-none : (net : List ℕ) (marks list : List ℕ) → marks ≡ replicate 26 0 → list ≡ replicate 26 0 → Found net marks list 0
@@ -284,13 +309,6 @@ found-none net marks list em el =
       listed = λ m e. true-false (isIn (replicate 26 0) m) e (none m);
       marked = λ j l. absurd (omega arith);
     })
-  where
-    none : (m : ℕ) → isIn (replicate 26 0) m ≡ false
-    none m =
-        ⊎-elim
-        (λ (h : m < 26). ap (λ (v : ℕ). eqb v 1) (getD-replicate 26 m 0 0 h))
-        (λ (h : 26 ≤ m). ap (λ (v : ℕ). eqb v 1) (List·getD-eq-default (replicate 26 0) 0 h))
-        (lt-or-ge m 26)
 
 -- no more nodes are found than there are marks
 pub found-few : {net marks list : List ℕ} {count : ℕ} → Found net marks list count → count ≤ 26
@@ -302,4 +320,13 @@ pub spread-first : {net : List ℕ} (roots : List ℕ) {n : ℕ} → Inner net n
     → Spread net roots n 0 marks list count
 spread-first {net} roots {n} i ec em el =
     let noted = searched-note (found-none net (replicate 26 0) (replicate 26 0) refl refl) n (omega (arith, i .node .most, i .cell .within .nodes)) (i .inner) (i .node .most) ec em el in
-    record { found = noted .0 .found; own = noted .1; within = omega arith; done = λ j h. absurd (omega arith) }
+    record {
+      found = noted .0 .found;
+      own = noted .1;
+      within = omega arith;
+      done = λ j h. absurd (omega arith);
+      reached = subst (Within net roots n) (sym em)
+          (rw (none n)
+          (each (found-none net (replicate 26 0) (replicate 26 0) refl refl) n (omega (arith, i .node .most, i .cell .within .nodes)) (i .inner) (i .node .most) (none n)
+          (λ (m : ℕ). Joined (parts (netCircuit net) roots) n m) (joined-refl (parts (netCircuit net) roots) n) (λ m e. true-false (isIn (replicate 26 0) m) e (none m))));
+    }

@@ -1,18 +1,18 @@
 -- What the steps of a descent ask and answer.
 use mathlib.Core.Path.{_≡_}
 use mathlib.Core.List.{List, map}
-use mathlib.Core.Bool.{true, false, cond}
-use Prim.Native.Nat.{ℕ, _<_, _≤_}
+use mathlib.Core.Bool.{false, cond}
+use Prim.Native.Nat.{ℕ, _+_, _<_, _≤_}
 use lib.ListN.{length, getD}
 use lib.Dec.{eqb}
 use Rattle.diagram.specs.Table.{terminalLetter}
 use Rattle.diagram.specs.Held.{held}
 use Rattle.rules.specs.State.{isDriven}
 use Rattle.net.specs.Net.{netCircuit}
-use Rattle.net.specs.Roots.{rootsLength}
+use Rattle.net.specs.Roots.{seedsPlace, rootsLength}
 use Rattle.plain.specs.Ready.{Net, Noded}
 use Rattle.functions.specs.Open.{Legible, Operand}
-use Rattle.descent.specs.Settle.{isTouched, Calm, AllCalm}
+use Rattle.descent.specs.Settle.{Calm, AllCalm}
 
 -- an inner node of the cell
 pub record Inner (net : List ℕ) (n : ℕ) : Type 0 where
@@ -44,7 +44,7 @@ pub record NumbersOf (low roots out : List ℕ) : Type 0 where
 pub record Settleable (net : List ℕ) (n : ℕ) (numbers : List ℕ) : Type 0 where
   pub node : Inner net n
   pub long : length numbers ≡ rootsLength
-  pub calm : isTouched numbers ≡ true → Calm (netCircuit net) numbers
+  pub calm : Calm (netCircuit net) numbers
 
 -- the low parts of the roots
 abbrev pub lowOf : List ℕ → List ℕ → List ℕ
@@ -54,12 +54,16 @@ lowOf low roots = map (λ (e : ℕ). getD low e 0) roots
 pub record LeafOf (net : List ℕ) (n : ℕ) (low roots : List ℕ) : Type 0 where
   pub entries : Entries low roots
   pub node : Inner net n
-  pub calm : isTouched (lowOf low roots) ≡ true → Calm (netCircuit net) (lowOf low roots)
+  pub calm : Calm (netCircuit net) (lowOf low roots)
 
--- roots in the working columns, calm at every pattern that is touched, whose letters are among the last `left` of k
+-- roots in the working columns, calm at every pattern, whose letters are among the last `left` of k
 pub record Rooted (net : List ℕ) (n k : ℕ) (l w h : List ℕ) (used : ℕ) (roots : List ℕ) (left : ℕ) : Type 0 where
   pub node : Inner net n
   pub working : Legible k l w h used
   pub long : length roots ≡ rootsLength
   pub operand : (j : ℕ) → j < rootsLength → Operand k (held l w h used) used left (getD roots j 0)
   pub calm : AllCalm (netCircuit net) k (held l w h used) roots
+
+-- no node is a seed at any pattern: the roots are entry 0
+abbrev pub NoSeed : List ℕ → Type 0
+NoSeed roots = (m : ℕ) → m < 26 → getD roots (seedsPlace + m) 0 ≡ 0

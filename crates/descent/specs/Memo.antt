@@ -9,7 +9,7 @@ use Rattle.net.specs.Roots.{rootsLength}
 
 -- a word for each slot, 0 where it is free, else its entry and one more; then the roots of each slot
 abbrev pub slots : ℕ
-slots = 352
+slots = 277
 
 abbrev pub memoLength : ℕ
 memoLength = slots * (rootsLength + 1)

@@ -10,11 +10,12 @@ use Rattle.lists.specs.Tests.{countBelow}
 use Rattle.format.specs.Circuit.{Circuit, firstNodeNumber}
 use Rattle.diagram.specs.Table.{Table}
 use Rattle.rules.specs.State.{isDriven}
+use Rattle.rules.specs.Label.{joined}
 use Rattle.rules.specs.Sum.{farEnd}
 use Rattle.net.specs.Net.{nodesPlace, transistorsPlace, at, netTransistor, netCircuit, netArms}
-use Rattle.net.specs.Roots.{keptPlace, leafLength, rootsLength}
+use Rattle.net.specs.Roots.{keptPlace, leafLength, seedsPlace, pendingPlace, rootsLength}
 use Rattle.plain.specs.Leaf.{netChannel}
-use Rattle.descent.specs.Settle.{leafAt, isTouched, settledAt, Roots, Calm}
+use Rattle.descent.specs.Settle.{leafAt, isOff, parts, settledAt, Roots, Calm}
 
 -- marks of the nodes by number: 1 in the piece, 2 a driven end beside it, 0 neither
 abbrev pub marksLength : ℕ
@@ -25,10 +26,6 @@ isIn marks m = eqb (getD marks m 0) 1
 
 abbrev pub isNear : List ℕ → ℕ → Bool
 isNear marks m = not (eqb (getD marks m 0) 0)
-
--- entry 0 is the function that is 0 everywhere: transistor i is off at every pattern
-abbrev pub isOff : List ℕ → ℕ → Bool
-isOff roots i = eqb (getD roots (keptPlace + i) 0) 0
 
 -- what stands beside a node of the piece: a node of the piece, or a driven end that is marked
 abbrev pub Beside : Circuit → List ℕ → ℕ → Type 0
@@ -64,34 +61,51 @@ pub record Searched (net marks list : List ℕ) (count : ℕ) (marks′ list′ 
   pub found : Found net marks′ list′ count′
   pub grew : Grew marks list count marks′ list′ count′
 
--- a set of inner nodes with node n that is closed under the transistors that are not off
+-- the marked nodes are of n's piece
+abbrev pub Within : List ℕ → List ℕ → ℕ → List ℕ → Type 0
+Within net roots n marks = (m : ℕ) → isIn marks m ≡ true → joined (parts (netCircuit net) roots) n m ≡ true
+
+-- a search leaves no other piece
+abbrev pub StaysIn : List ℕ → List ℕ → List ℕ → List ℕ → Type 0
+StaysIn net roots marks marks′ = (n : ℕ) → Within net roots n marks → Within net roots n marks′
+
+-- node x is an end of transistor i
+abbrev pub isEndOf : List ℕ → ℕ → ℕ → Bool
+isEndOf net i x = eqb (netTransistor net i .first) x || eqb (netTransistor net i .second) x
+
+-- exactly the nodes of n's piece: inner nodes that the transistors which are not off join to it, and all beside them that these lead to
 pub record Piece (net roots : List ℕ) (n : ℕ) (marks : List ℕ) : Type 0 where
   pub long : length marks ≡ marksLength
   pub own : isIn marks n ≡ true
   pub inner : (m : ℕ) → isIn marks m ≡ true → isDriven (netCircuit net) m ≡ false
   pub small : (m : ℕ) → isIn marks m ≡ true → m < firstNodeNumber + at net nodesPlace
   pub closed : (m : ℕ) → isIn marks m ≡ true → AllCrossed net roots marks m
+  pub within : Within net roots n marks
 
 -- transistor i touches the piece
 abbrev pub isTouching : List ℕ → List ℕ → ℕ → Bool
 isTouching net marks i = ltb i (at net transistorsPlace) && (isIn marks (netTransistor net i .first) || isIn marks (netTransistor net i .second))
 
--- the roots that matter: the rails, the marked nodes, the transistors that touch the piece, touched and pending
-unfoldable pub matters : List ℕ → List ℕ → ℕ → Bool
-matters net marks j =
+-- the roots that matter: the rails, the marked nodes, the transistors that touch the piece, the seeds in it, and pending; of the seeds `sole`
+-- alone, where it is a node
+unfoldable pub matters : List ℕ → List ℕ → ℕ → ℕ → Bool
+matters net marks sole j =
     cond (ltb j keptPlace)
     (ltb j firstNodeNumber || isNear marks j)
-    (cond (ltb j leafLength) (isTouching net marks (j - keptPlace)) true)
+    (cond (ltb j leafLength) (isTouching net marks (j - keptPlace)) (cond (ltb j pendingPlace) (cond (eqb sole 0) (isIn marks (j - seedsPlace)) (eqb (j - seedsPlace) sole)) true))
 
 -- the others are entry 0
-pub record Selected (net roots marks out : List ℕ) : Type 0 where
+pub record Selected (net roots marks : List ℕ) (sole : ℕ) (out : List ℕ) : Type 0 where
   pub long : length out ≡ rootsLength
-  pub is : (j : ℕ) → j < rootsLength → getD out j 0 ≡ cond (matters net marks j) (getD roots j 0) 0
+  pub is : (j : ℕ) → j < rootsLength → getD out j 0 ≡ cond (matters net marks sole j) (getD roots j 0) 0
+
+-- where node n is a seed at every pattern, no other seed matters to it
+abbrev pub soleSeed : List ℕ → ℕ → ℕ
+soleSeed roots n = cond (eqb (getD roots (seedsPlace + n) 0) 1) n 0
 
 -- roots without those that do not matter to node n: they settle the same at every pattern
 pub record Narrowed (c : Circuit) (n : ℕ) (roots out : List ℕ) : Type 0 where
   pub long : length out ≡ rootsLength
   pub either : (j : ℕ) → j < rootsLength → (getD out j 0 ≡ getD roots j 0) ⊎ (getD out j 0 ≡ 0)
   pub settles : (letters : ℕ) (w : Table) → Roots letters w roots → (time p : ℕ) → settledAt c time n (leafAt letters w out p) ≡ settledAt c time n (leafAt letters w roots p)
-  pub touch : (letters : ℕ) (w : Table) → Roots letters w roots → (p : ℕ) → isTouched (leafAt letters w out p) ≡ true → isTouched (leafAt letters w roots p) ≡ true
-  pub calm : (letters : ℕ) (w : Table) → Roots letters w roots → (p : ℕ) → isTouched (leafAt letters w out p) ≡ true → Calm c (leafAt letters w roots p) → Calm c (leafAt letters w out p)
+  pub calm : (letters : ℕ) (w : Table) → Roots letters w roots → (p : ℕ) → Calm c (leafAt letters w roots p) → Calm c (leafAt letters w out p)

@@ -5,18 +5,19 @@ use crate::live::halve;
 use crate::live::least_live;
 use crate::live::live_numbers;
 use crate::live::narrow;
+use crate::live::some_seed;
 use crate::memo::MEMO;
 use crate::memo::bucket;
 use crate::memo::forget;
 use crate::memo::look;
 use crate::memo::remember;
 use crate::quiet::quiet;
+use crate::settle::reached;
 use crate::settle::settled;
 use functions::numbers::TERMINAL;
 use functions::step::join;
 use net::roots::PENDING;
 use net::roots::ROOTS;
-use net::roots::TOUCHED;
 use table::Put;
 use table::Stop;
 use table::stopped;
@@ -56,7 +57,8 @@ fn leaf(
     ensures { λ r. ⌜ Outcome (held (now (letter .entry)) (now (low .entry)) (now (high .entry)) used) (addOf (terminal (settledAt (netCircuit (now (net .entry))) time n (lowOf (now (wlow .entry)) (now (roots .entry))))) (held (now (letter .entry)) (now (low .entry)) (now (high .entry)) used)) (now (letter .exit)) (now (low .exit)) (now (high .exit)) (now (index .exit)) r ⌝ }
 {
     let numbers = live_numbers(wlow, roots, live, count);
-    let v = settled(net, &numbers, time, n);
+    let moves = reached(net, &numbers, n);
+    let v = settled(net, &numbers, moves, time, n);
     table::add(letter, low, high, index, used, TERMINAL, v, 0)
 }
 
@@ -89,7 +91,7 @@ fn down(
     ensures { λ r. ⌜ Outcome (held (now (letter .entry)) (now (low .entry)) (now (high .entry)) used) (store k 0 (settledBy (netCircuit (now (net .entry))) time n k (held (now (wletter .entry)) (now (wlow .entry)) (now (whigh .entry)) wused) (now (roots .entry))) (held (now (letter .entry)) (now (low .entry)) (now (high .entry)) used)) (now (letter .exit)) (now (low .exit)) (now (high .exit)) (now (index .exit)) r ⌝ }
     ensures { λ r. ⌜ (stopped (r .stop) ≡ false → Memo (settledBy (netCircuit (now (net .entry))) time n k (held (now (wletter .entry)) (now (wlow .entry)) (now (whigh .entry)) wused)) k (held (now (letter .exit)) (now (low .exit)) (now (high .exit)) (r .used)) (now (memo .exit))) ⌝ }
 {
-    if roots[TOUCHED] == 0 {
+    if !some_seed(roots, live, count) {
         let e = roots[PENDING];
         return quiet(
             wletter,
@@ -110,6 +112,24 @@ fn down(
     let mut kept: [u32; ROOTS] = [0; ROOTS];
     let mut list: [u32; ROOTS] = [0; ROOTS];
     let total = narrow(net, n, roots, live, count, &mut kept, &mut list);
+    if (total != count) && !some_seed(&kept, &list, total) {
+        let e = kept[PENDING];
+        return quiet(
+            wletter,
+            wlow,
+            whigh,
+            wused,
+            letter,
+            low,
+            high,
+            index,
+            used,
+            k,
+            time,
+            e,
+            left,
+        );
+    }
     let m = least_live(wletter, &kept, &list, total);
     let slot = bucket(&kept, &list, total);
     let old = look(memo, slot, &kept);

@@ -6,9 +6,11 @@ use crate::letters::part;
 use crate::mask::matters;
 use crate::piece::piece;
 use functions::numbers::TERMINAL;
+use net::roots::PENDING;
 use net::roots::ROOTS;
+use net::roots::SEEDS;
 ghost use mathlib.Core.Path.{_≡_};
-ghost use mathlib.Core.Bool.{cond};
+ghost use mathlib.Core.Bool.{false, cond};
 ghost use Prim.Native.Nat.{ℕ, _+_, _<_};
 ghost use lib.ListN.{length, getD, set};
 ghost use lib.Dec.{eqb};
@@ -16,9 +18,9 @@ ghost use Rattle.diagram.specs.Table.{terminalLetter};
 ghost use Rattle.net.specs.Net.{netCircuit};
 ghost use Rattle.net.specs.Roots.{rootsLength};
 ghost use Rattle.plain.specs.Ready.{Net};
-ghost use Rattle.descent.specs.Piece.{matters as mattersOf, Selected, Narrowed};
+ghost use Rattle.descent.specs.Piece.{matters as mattersOf, soleSeed, Selected, Narrowed};
 ghost use Rattle.descent.specs.Live.{Live};
-ghost use Rattle.descent.specs.Descend.{Inner, Entries, Least, HalfOf, NumbersOf};
+ghost use Rattle.descent.specs.Descend.{Inner, Entries, Least, HalfOf, NumbersOf, NoSeed};
 
 // All places.
 pub fn all_places() -> [u32; ROOTS]
@@ -35,14 +37,14 @@ pub fn all_places() -> [u32; ROOTS]
 }
 
 // Root j where it matters, else entry 0.
-fn kept_root(net: &[u32], marks: &[u32; 26], j: u32, root: u32) -> u32
+fn kept_root(net: &[u32], marks: &[u32; 26], sole: u32, j: u32, root: u32) -> u32
     requires { ⌜ Net (now net) ⌝ }
-    ensures { λ r. ⌜ r ≡ cond (mattersOf (now (net .entry)) (now (marks .entry)) j) root 0 ⌝ }
+    ensures { λ r. ⌜ r ≡ cond (mattersOf (now (net .entry)) (now (marks .entry)) sole j) root 0 ⌝ }
 {
     if root == 0 {
         return 0;
     }
-    if matters(net, marks, j) {
+    if matters(net, marks, sole, j) {
         return root;
     }
     0
@@ -67,6 +69,7 @@ fn keep(
     net: &[u32],
     roots: &[u32; ROOTS],
     marks: &[u32; 26],
+    sole: u32,
     live: &[u32; ROOTS],
     count: u32,
     out: &mut [u32; ROOTS],
@@ -74,7 +77,7 @@ fn keep(
 ) -> u32
     requires { ⌜ Net (now net) ⌝ }
     requires { ⌜ Live (now roots) (now live) count × Live (now out) (now live) count × (length (now list) ≡ rootsLength) ⌝ }
-    ensures { λ r. ⌜ Selected (now (net .entry)) (now (roots .entry)) (now (marks .entry)) (now (out .exit)) ⌝ }
+    ensures { λ r. ⌜ Selected (now (net .entry)) (now (roots .entry)) (now (marks .entry)) sole (now (out .exit)) ⌝ }
     ensures { λ r. ⌜ Live (now (out .exit)) (now (list .exit)) r ⌝ }
 {
     let mut total: u32 = 0;
@@ -83,7 +86,7 @@ fn keep(
         let k = i as usize;
         let j = live[k];
         let at = j as usize;
-        let root = kept_root(net, marks, j, roots[at]);
+        let root = kept_root(net, marks, sole, j, roots[at]);
         out[at] = root;
         total = note_place(list, total, j, root);
         i += 1;
@@ -129,6 +132,17 @@ fn copy(
     }
 }
 
+// Node n, where it is a seed at every pattern: no other seed matters to it then. Else 0.
+fn sole_seed(roots: &[u32; ROOTS], n: u32) -> u32
+    requires { ⌜ n < 26 ⌝ }
+    ensures { λ r. ⌜ r ≡ soleSeed (now (roots .entry)) n ⌝ }
+{
+    if roots[SEEDS + n as usize] == 1 {
+        return n;
+    }
+    0
+}
+
 // The roots that matter to node n, and the list of their places. Gives their count. Where none has become entry 0 since they were listed,
 // they are the same.
 pub fn narrow(
@@ -150,7 +164,25 @@ pub fn narrow(
         return count;
     }
     let marks = piece(net, roots, n);
-    keep(net, roots, &marks, live, count, out, list)
+    let sole = sole_seed(roots, n);
+    keep(net, roots, &marks, sole, live, count, out, list)
+}
+
+// Whether a listed root of a seed is not entry 0. Seeds stand near the end of a list.
+pub fn some_seed(roots: &[u32; ROOTS], live: &[u32; ROOTS], count: u32) -> bool
+    requires { ⌜ Live (now roots) (now live) count ⌝ }
+    ensures { λ r. ⌜ (r ≡ false → NoSeed (now (roots .entry))) ⌝ }
+{
+    let mut i = count;
+    while i > 0 {
+        i -= 1;
+        let k = i as usize;
+        let at = live[k] as usize;
+        if (at >= SEEDS) & (at < PENDING) & (roots[at] != 0) {
+            return true;
+        }
+    }
+    false
 }
 
 // The least letter of the roots; a terminal's where all are terminals.

@@ -12,7 +12,7 @@ use table::Put;
 use table::stopped;
 
 // So many that what a descent comes back to is mostly still there.
-const SLOTS: usize = 352;
+const SLOTS: usize = 277;
 
 pub const MEMO: usize = SLOTS * (ROOTS + 1);
 
@@ -56,7 +56,7 @@ pub fn bucket(roots: &[u32; ROOTS], live: &[u32; ROOTS], count: u32) -> usize
         h = mix(h, place, roots[j]);
         i += 1;
     }
-    (h * 352 / 1048576) as usize
+    (h * 277 / 1048576) as usize
 }
 
 // The word of a slot whose roots are these, or 0.

@@ -7,13 +7,11 @@ use plain::reads::far_end;
 use plain::reads::is_driven;
 ghost use mathlib.Core.Path.{_≡_};
 ghost use mathlib.Core.Bool.{true, false, cond};
-ghost use Prim.Native.Nat.{ℕ, _+_, _<_};
-ghost use lib.ListN.{length, getD, set};
-ghost use lib.Dec.{eqb};
-ghost use Rattle.rules.specs.State.{isDriven};
-ghost use Rattle.net.specs.Net.{nodesPlace, transistorsPlace, netCircuit};
+ghost use Prim.Native.Nat.{_+_, _<_};
+ghost use lib.ListN.{getD, set};
+ghost use Rattle.net.specs.Net.{transistorsPlace};
 ghost use Rattle.plain.specs.Ready.{Net};
-ghost use Rattle.descent.specs.Piece.{isIn, Beside, Crossed, AllCrossed, Found, Searched, Piece};
+ghost use Rattle.descent.specs.Piece.{isIn, isEndOf, Crossed, AllCrossed, Found, Searched, StaysIn, Piece};
 ghost use Rattle.descent.specs.Descend.{Inner};
 
 // Marks of nodes: in the piece, or a driven end beside it.
@@ -50,10 +48,10 @@ fn cross(
     i: u32,
 ) -> u32
     requires { ⌜ Net (now net) ⌝ }
-    requires { ⌜ i < getD (now net) transistorsPlace 0 ⌝ }
+    requires { ⌜ (i < getD (now net) transistorsPlace 0) × (isEndOf (now net) i x ≡ true) × (isIn (now marks) x ≡ true) ⌝ }
     requires { ⌜ Found (now net) (now marks) (now found) count ⌝ }
     ensures { λ r. ⌜ Searched (now (net .entry)) (now (marks .entry)) (now (found .entry)) count (now (marks .exit)) (now (found .exit)) r ⌝ }
-    ensures { λ r. ⌜ Crossed (now (net .entry)) (now (roots .entry)) (now (marks .exit)) x i ⌝ }
+    ensures { λ r. ⌜ Crossed (now (net .entry)) (now (roots .entry)) (now (marks .exit)) x i × StaysIn (now (net .entry)) (now (roots .entry)) (now (marks .entry)) (now (marks .exit)) ⌝ }
 {
     let at = (KEPT + i) as usize;
     if roots[at] == 0 {
@@ -78,10 +76,10 @@ fn spread(
     x: u32,
 ) -> u32
     requires { ⌜ Net (now net) ⌝ }
-    requires { ⌜ x < 2 + getD (now net) nodesPlace 0 ⌝ }
+    requires { ⌜ isIn (now marks) x ≡ true ⌝ }
     requires { ⌜ Found (now net) (now marks) (now found) count ⌝ }
     ensures { λ r. ⌜ Searched (now (net .entry)) (now (marks .entry)) (now (found .entry)) count (now (marks .exit)) (now (found .exit)) r ⌝ }
-    ensures { λ r. ⌜ AllCrossed (now (net .entry)) (now (roots .entry)) (now (marks .exit)) x ⌝ }
+    ensures { λ r. ⌜ AllCrossed (now (net .entry)) (now (roots .entry)) (now (marks .exit)) x × StaysIn (now (net .entry)) (now (roots .entry)) (now (marks .entry)) (now (marks .exit)) ⌝ }
 {
     let degree = degree_of(net, x);
     let mut total = count;

@@ -1,4 +1,4 @@
-// The next change where no pattern is touched: the pending change with T taken out.
+// The next change where no node is a seed: the pending change with T taken out.
 use functions::numbers::TERMINAL;
 use functions::step::join;
 use plain::settle::pending_after;

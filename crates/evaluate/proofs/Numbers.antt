@@ -8,7 +8,7 @@ use lib.ListN.{length, getD, take, drop, length-take, length-drop}
 use lib.Seq.{getD-take, getD-drop, ext-getD}
 use Rattle.format.specs.Circuit.{Circuit}
 use Rattle.rules.specs.State.{State, changeAt, isInner}
-use Rattle.rules.specs.Group.{reconsidered}
+use Rattle.rules.specs.Reach.{reconsidered}
 use Rattle.rules.specs.Kept.{kept}
 use Rattle.rules.specs.Step.{nextChange}
 use Rattle.net.specs.Net.{netCircuit}

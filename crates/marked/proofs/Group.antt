@@ -7,29 +7,27 @@ use Prim.Native.Nat.{ℕ, zero, suc, _-_, _≤_, _<_}
 use native.Mathlib.Omega.{arith}
 use lib.ListN.{length, getD, drop}
 use lib.Dec.{eqb}
-use Rattle.lists.proofs.Cases.{and-both}
+use Rattle.lists.proofs.Cases.{and-right, and-both, bool-ext}
 use Rattle.format.specs.declared.Transistor.{Transistor}
 use Rattle.format.specs.Circuit.{Circuit, noTransistor}
 use Rattle.format.proofs.Legal.{LegalCell}
 use Rattle.rules.specs.State.{State, valueAt, changeAt, isDriven, isInner}
-use Rattle.rules.specs.Group.{joined, betweenInner, groups, inGroup, ofGroup, disturbed, touched}
+use Rattle.rules.specs.Label.{joined, betweenInner, only}
+use Rattle.rules.specs.Group.{groups, inGroup, ofGroup}
+use Rattle.rules.specs.Reach.{conductsAround, reach, disturbed, touched}
 use Rattle.rules.specs.Kept.{conducts, kept}
 use Rattle.rules.specs.Step.{nextChange}
 use Rattle.rules.proofs.State.{Numbered}
-use Rattle.rules.proofs.Arrive.{some-same}
-use Rattle.rules.proofs.Label.{all-legal, joined-refl}
+use Rattle.rules.proofs.Label.{IsNode, joined-refl, only-of, only-in}
+use Rattle.rules.proofs.Reach.{end-piece, touched-seed, seed-touched, seed-node, reach-exactly, group-path}
 use Rattle.rules.proofs.Forest.{kept-stems}
-use Rattle.rules.proofs.Local.{only, touches, Shared, Local, change-local}
+use Rattle.rules.proofs.Local.{touches, Shared, Local, change-local}
 use Rattle.rules.specs.Matrix.{isKept, transistorAt, Matrix, linked, matrixAt, isHeld}
 use Rattle.rules.proofs.Matrix.{at-member, group-kept}
 use Rattle.descent.specs.Settle.{isOf}
 use Rattle.descent.proofs.Channels.{by-only, kept-by, leaf-change}
 use Rattle.descent.proofs.Settled.{group-ends}
 use Rattle.attempt.specs.Change.{pendingIn, beforeState, afterState, changeFrom}
-
-and-same : (g x y : Bool) → (g ≡ true → x ≡ y) → (g && x) ≡ (g && y)
-and-same true x y h = h refl
-and-same false x y h = refl
 
 module _ (c : Circuit) (s z : State) (looked : ℕ → Bool)
     (same : (i : ℕ) → i < length (c .transistors) → looked i ≡ true → conducts s (transistorAt c i) ≡ conducts z (transistorAt c i)) where
@@ -60,6 +58,15 @@ pub record SameRead (c : Circuit) (n : ℕ) (s z : State) : Type 0 where
   pub gate : (t : Transistor) → List·Memᴰ t (c .transistors) → ofGroup c n t ≡ true → valueAt s (t .gate) ≡ valueAt z (t .gate)
   pub first : (t : Transistor) → List·Memᴰ t (c .transistors) → ofGroup c n t ≡ true → valueAt s (t .first) ≡ valueAt z (t .first)
   pub second : (t : Transistor) → List·Memᴰ t (c .transistors) → ofGroup c n t ≡ true → valueAt s (t .second) ≡ valueAt z (t .second)
+
+-- and the other way round
+read-back : {c : Circuit} {n : ℕ} {s z : State} → SameRead c n s z → SameRead c n z s
+read-back r = record {
+  own = λ m g. sym (r .own m g);
+  gate = λ t at g. sym (r .gate t at g);
+  first = λ t at g. sym (r .first t at g);
+  second = λ t at g. sym (r .second t at g);
+}
 
 module _ (c : Circuit) (l : LegalCell c) (n : ℕ) where
   module _ {s z : State} (r : SameRead c n s z) where
@@ -94,7 +101,7 @@ module _ (c : Circuit) (l : LegalCell c) (n : ℕ) where
           same = channels-same;
           ends = λ k m e.
               let at : List·Memᴰ (k .transistor) (c .transistors) = kept-stems c s k m .listed in
-              let two = group-ends c (all-legal l) n (k .transistor) at e in
+              let two = group-ends c l n (k .transistor) at e in
               (pass (k .transistor .first) (r .first (k .transistor) at e) (two .0), pass (k .transistor .second) (r .second (k .transistor) at e) (two .1));
           values = r .own;
         }
@@ -103,13 +110,32 @@ module _ (c : Circuit) (l : LegalCell c) (n : ℕ) where
     next-same : (time : ℕ) → isInner c n ≡ true → changeAt s n ≡ changeAt z n → nextChange c time s (kept c s) n ≡ nextChange c time z (kept c z) n
     next-same time inner e = change-local read-local n (and-both (isInner c n) (joined (groups c) n n) inner (joined-refl (groups c) n)) time e
 
-  -- and the same touches its group
-  touched-same : {b a y z : State} → SameRead c n b y → SameRead c n a z → touched c b a n ≡ touched c y z n
-  unfolding touched
-  touched-same {b} {a} {y} {z} hb ha =
-      some-same (λ (t : Transistor). ofGroup c n t && disturbed c b a t) (λ (t : Transistor). ofGroup c n t && disturbed c y z t) (c .transistors)
-      (λ t at. and-same (ofGroup c n t) (disturbed c b a t) (disturbed c y z t)
-      (λ e. rw (hb .gate t at e, ha .gate t at e, hb .first t at e, ha .first t at e, hb .second t at e, ha .second t at e)))
+  -- a seed of the group that it reaches is one in both
+  seed-same : {b a y z : State} → SameRead c n b y → SameRead c n a z → isInner c n ≡ true → Numbered c n → touched c (reach c b a) b a n ≡ true → touched c (reach c y z) y z n ≡ true
+  seed-same {b} {a} {y} {z} hb ha inner own e =
+      let node : IsNode (length (c .nodes)) n = record { least = own .least; most = own .most } in
+      let s = touched-seed c (reach c b a) b a n e in
+      let here : IsNode (length (c .nodes)) (s .0) = seed-node c l b a (s .1) in
+      let t : Transistor = s .1 .transistor in
+      let way =
+      group-path c l n (only (conductsAround b a) (c .transistors)) (only (conductsAround y z) (c .transistors))
+      (λ u m. only-of (conductsAround b a) (c .transistors) u m .0)
+      (λ u m g.
+      let of = only-of (conductsAround b a) (c .transistors) u m in
+      let same : conductsAround b a u ≡ conductsAround y z u = rw (hb .gate u (of .0) g, ha .gate u (of .0) g) in
+      only-in (conductsAround y z) (c .transistors) u (of .0) (sym same ∙ of .1))
+      (and-both (isInner c n) (joined (groups c) n n) inner (joined-refl (groups c) n))
+      (reach-exactly c l b a n (s .0) node here .0 (s .2)) in
+      let g : ofGroup c n t ≡ true = end-piece c (groups c) n t (s .0) (s .1 .at) (s .1 .inner) (and-right (isInner c (s .0)) (joined (groups c) n (s .0)) (way .0)) in
+      let at : List·Memᴰ t (c .transistors) = s .1 .listed in
+      let same : disturbed c b a t ≡ disturbed c y z t = rw (hb .gate t at g, ha .gate t at g, hb .first t at g, ha .first t at g, hb .second t at g, ha .second t at g) in
+      seed-touched c (reach c y z) y z n (s .0)
+      (record { transistor = t; listed = at; at = s .1 .at; inner = s .1 .inner; moved = sym same ∙ s .1 .moved })
+      (reach-exactly c l y z n (s .0) node here .1 (way .1))
+
+  -- so the node is reconsidered in both or in neither
+  touched-same : {b a y z : State} → SameRead c n b y → SameRead c n a z → isInner c n ≡ true → Numbered c n → touched c (reach c b a) b a n ≡ touched c (reach c y z) y z n
+  touched-same hb ha inner own = bool-ext _ _ (seed-same hb ha inner own) (seed-same (read-back hb) (read-back ha) inner own)
 
   -- so numbers of a pattern that differ only in what the group does not read give it the same next change
   pub from-same : (time : ℕ) (all : Bool) → isInner c n ≡ true → Numbered c n → (one other : List ℕ)
@@ -117,10 +143,12 @@ module _ (c : Circuit) (l : LegalCell c) (n : ℕ) where
       → changeFrom c time all n one ≡ changeFrom c time all n other
   unfolding changeFrom
   from-same time all inner own one other hb ha p =
-      let w : touched c (beforeState c one) (afterState c time one) n ≡ touched c (beforeState c other) (afterState c time other) n = touched-same hb ha in
+      let b : State = beforeState c other in
+      let a : State = afterState c time other in
+      let w : touched c (reach c (beforeState c one) (afterState c time one)) (beforeState c one) (afterState c time one) n ≡ touched c (reach c b a) b a n = touched-same hb ha inner own in
       let q : changeAt (afterState c time one) n ≡ changeAt (afterState c time other) n =
       leaf-change c (pendingIn time one) (drop 26 one) n own ∙ p ∙ sym (leaf-change c (pendingIn time other) (drop 26 other) n own) in
       let x : nextChange c time (afterState c time one) (kept c (afterState c time one)) n ≡ nextChange c time (afterState c time other) (kept c (afterState c time other)) n =
       next-same ha time inner q in
-      ap₂ (λ (b : Bool) (v : ℕ). cond (all || (isInner c n && b)) v (pendingIn time one)) w x
-      ∙ ap (cond (all || (isInner c n && touched c (beforeState c other) (afterState c time other) n)) (nextChange c time (afterState c time other) (kept c (afterState c time other)) n)) p
+      ap₂ (λ (r : Bool) (v : ℕ). cond (all || (isInner c n && r)) v (pendingIn time one)) w x
+      ∙ ap (cond (all || (isInner c n && touched c (reach c b a) b a n)) (nextChange c time (afterState c time other) (kept c (afterState c time other)) n)) p

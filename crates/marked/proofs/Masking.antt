@@ -3,7 +3,7 @@ use mathlib.Core.Path.{_≡_, refl, sym, _∙_, ap, subst}
 use mathlib.Core.Logic.{inl, inr, ⊎-elim}
 use mathlib.Core.List.{List}
 use mathlib.Core.Bool.{Bool, true, false, not, _||_, cond}
-use Prim.Native.Nat.{ℕ, zero, suc, _+_, _≤_, _<_}
+use Prim.Native.Nat.{ℕ, _+_, _≤_, _<_}
 use native.Mathlib.Omega.{arith}
 use lib.ListN.{length, getD, take, drop, length-take, List·getD-eq-default}
 use lib.Seq.{getD-drop}
@@ -14,7 +14,8 @@ use Rattle.format.specs.declared.Transistor.{Transistor}
 use Rattle.format.specs.Circuit.{Circuit, noTransistor}
 use Rattle.diagram.specs.Table.{Table, numberAt}
 use Rattle.rules.specs.State.{State, valueAt, isInner}
-use Rattle.rules.specs.Group.{inGroup, ofGroup, joined, groups}
+use Rattle.rules.specs.Label.{joined}
+use Rattle.rules.specs.Group.{inGroup, ofGroup, groups}
 use Rattle.rules.proofs.State.{Numbered, rail-value}
 use Rattle.rules.proofs.Label.{at-each, inner-node}
 use Rattle.net.specs.Net.{at, netTransistor, netCircuit}

@@ -97,7 +97,7 @@ module _ {net l w h ix : List ℕ} {used : ℕ} (cell : Net net) (o : Open (at n
         ⊎-elim
         (λ (q : getD marks n 0 ≡ 0).
         ap (λ (b : Bool). cond b (restOf c time k t pending n p) (settledFor c time k u roots n p)) (eq-eqb (getD marks n 0) 0 q)
-        ∙ rest-change cell e time n p all (λ inner. m .rest n node inner q))
+        ∙ rest-change cell e time n p node all (λ inner. m .rest n node inner q))
         (λ (q : getD marks n 0 ≡ 0 → ⊥).
         ap (λ (b : Bool). cond b (restOf c time k t pending n p) (settledFor c time k u roots n p)) (ne-eqb (getD marks n 0) 0 q)
         ∙ step-settles cell o masked-entries r time n p node less

@@ -7,7 +7,7 @@ use Prim.Native.Nat.{ℕ, _+_, _≤_, _<_}
 use native.Mathlib.Omega.{arith}
 use lib.ListN.{length, getD, length-append, List·getD-append}
 use lib.Seq.{getD-append-add, ext-getD}
-use Rattle.lists.proofs.Cases.{eq-or-ne, lt-or-ge}
+use Rattle.lists.proofs.Cases.{lt-or-ge}
 use Rattle.format.specs.Circuit.{Circuit, firstNodeNumber}
 use Rattle.cell.specs.Value.{firsts}
 use Rattle.cell.proofs.Firsts.{length-firsts, firsts-at}
@@ -16,7 +16,7 @@ use Rattle.diagram.specs.Store.{store}
 use Rattle.diagram.specs.Held.{held}
 use Rattle.rules.specs.State.{isInner}
 use Rattle.net.specs.Net.{lettersPlace, at, netCircuit}
-use Rattle.net.specs.Roots.{leafLength, touchedPlace, pendingPlace, allPendingPlace}
+use Rattle.net.specs.Roots.{pendingPlace}
 use Rattle.plain.specs.Ready.{Noded}
 use Rattle.table.specs.declared.Put.{Put}
 use Rattle.table.specs.Holds.{Outcome}
@@ -29,16 +29,14 @@ use Rattle.marked.specs.ByRoots.{rootsFor, settledFor, StepRoots}
 -- they stand in their places
 pub roots-for : (roots : List ℕ) (n : ℕ) → RootsFor roots n (rootsFor roots n)
 roots-for roots n =
-    let leaf : List ℕ = firsts leafLength 0 roots in
-    let last : List ℕ = getD roots (touchedPlace + n) 0 ∷ getD roots (allPendingPlace + n) 0 ∷ [] in
-    let long : length leaf ≡ leafLength = length-firsts 0 leafLength roots in
-    let e0 : leafLength ≡ length leaf + 0 = omega arith in
-    let e1 : pendingPlace ≡ length leaf + 1 = omega arith in
+    let first : List ℕ = firsts pendingPlace 0 roots in
+    let last : List ℕ = getD roots (pendingPlace + n) 0 ∷ [] in
+    let long : length first ≡ pendingPlace = length-firsts 0 pendingPlace roots in
+    let e : pendingPlace ≡ length first + 0 = omega arith in
     record {
-      long = length-append leaf last ∙ omega arith;
-      leaf = λ j l. List·getD-append leaf last 0 j (omega arith) ∙ firsts-at 0 leafLength roots j l;
-      touched = ap (λ (m : ℕ). getD (rootsFor roots n) m 0) e0 ∙ getD-append-add leaf last 0 0;
-      pending = ap (λ (m : ℕ). getD (rootsFor roots n) m 0) e1 ∙ getD-append-add leaf last 1 0;
+      long = length-append first last ∙ omega arith;
+      first = λ j l. List·getD-append first last 0 j (omega arith) ∙ firsts-at 0 pendingPlace roots j l;
+      pending = ap (λ (m : ℕ). getD (rootsFor roots n) m 0) e ∙ getD-append-add first last 0 0;
     }
 
 -- and no others do
@@ -46,15 +44,11 @@ roots-same : {roots : List ℕ} {n : ℕ} {a b : List ℕ} → RootsFor roots n 
 roots-same {roots} {n} {a} {b} x y =
     ext-getD 0 a b (x .long ∙ sym (y .long)) λ j h.
     ⊎-elim
-    (λ (l : j < leafLength). x .leaf j l ∙ sym (y .leaf j l))
-    (λ (l : leafLength ≤ j).
-    ⊎-elim
-    (λ (q : j ≡ touchedPlace). rw q (x .touched ∙ sym (y .touched)))
-    (λ (ne : j ≡ touchedPlace → ⊥).
-    let q : j ≡ pendingPlace = omega (arith, ne, x .long) in
+    (λ (l : j < pendingPlace). x .first j l ∙ sym (y .first j l))
+    (λ (l : pendingPlace ≤ j).
+    let q : j ≡ pendingPlace = omega (arith, x .long) in
     rw q (x .pending ∙ sym (y .pending)))
-    (eq-or-ne j touchedPlace))
-    (lt-or-ge j leafLength)
+    (lt-or-ge j pendingPlace)
 
 module _ {net wl ww wh : List ℕ} {wused : ℕ} {roots : List ℕ} (s : StepRoots net wl ww wh wused roots) {n : ℕ} (node : Noded net n) (inner : isInner (netCircuit net) n ≡ true)
     {own : List ℕ} (o : RootsFor roots n own) where

@@ -8,7 +8,7 @@ use native.Mathlib.Omega.{arith}
 use lib.ListN.{length, getD, drop}
 use lib.Seq.{getD-drop}
 use borrow.Author.Tests.{not-false, eqb-true, eq-eqb}
-use Rattle.lists.proofs.Cases.{lt-or-ge}
+use Rattle.lists.proofs.Cases.{bool-cases, lt-or-ge, true-false}
 use Rattle.format.specs.declared.Transistor.{Transistor}
 use Rattle.format.specs.Circuit.{Circuit, noTransistor}
 use Rattle.format.specs.Legal.{isInput}
@@ -17,15 +17,19 @@ use Rattle.diagram.specs.Held.{held}
 use Rattle.table.specs.declared.Stop.{Stop}
 use Rattle.rules.specs.State.{State, valueAt, isInner, nodeNumbers}
 use Rattle.rules.specs.Arrive.{changed}
-use Rattle.rules.specs.Group.{ofGroup, inputChanged, disturbed, some, touched}
+use Rattle.rules.specs.Label.{some}
+use Rattle.rules.specs.Group.{groups, ofGroup}
+use Rattle.rules.specs.Reach.{reach, inputChanged, disturbed, touched}
 use Rattle.rules.specs.Kept.{kept}
 use Rattle.rules.specs.Step.{nextChange}
 use Rattle.rules.specs.Run.{StoredAll, storeAll}
 use Rattle.rules.proofs.State.{rail-value}
+use Rattle.rules.proofs.Reach.{reached-group}
 use Rattle.net.specs.Net.{lettersPlace, at, netCircuit}
 use Rattle.net.proofs.Laying.{nodes-length}
 use Rattle.net.specs.Roots.{rootsLength, changePlace}
-use Rattle.plain.specs.Ready.{Net}
+use Rattle.plain.specs.Ready.{Net, Noded}
+use Rattle.prepare.proofs.Reading.{laid-legal}
 use Rattle.functions.specs.Open.{Open}
 use Rattle.plain.specs.Shown.{changedAt, inputChangedAt, disturbedAt}
 use Rattle.plain.proofs.Values.{wired}
@@ -122,23 +126,33 @@ module _ {net : List ℕ} (cell : Net net) {k : ℕ} {t : Table} {used : ℕ} {b
         (and-none (isInput c (u .first)) (changedAt before after (u .first)) (changed first then (u .first)) (still (u .first) (w .first))))
         (and-none (isInput c (u .second)) (changedAt before after (u .second)) (changed first then (u .second)) (still (u .second) (w .second))) q
 
-    -- a node whose group has nothing that stirs is not reconsidered
-    untouched : stirredFor c before after n ≡ false → touched c first then n ≡ false
+    -- in a group that has nothing that stirs nothing is disturbed
+    group-still : stirredFor c before after n ≡ false → touched c (groups c) first then n ≡ false
     unfolding touched
-    untouched quiet =
+    group-still quiet =
         some-none (λ (u : Transistor). ofGroup c n u && disturbedAt c before after u) (λ (u : Transistor). ofGroup c n u && disturbed c first then u) (c .transistors)
         (λ i h. and-none (ofGroup c n (getD (c .transistors) i noTransistor)) (disturbedAt c before after (getD (c .transistors) i noTransistor)) (disturbed c first then (getD (c .transistors) i noTransistor)) (undisturbed i h)) quiet
 
-    -- so its pending change stays, but for T
-    from-rest : stirredFor c before after n ≡ false → changeFrom c time false n numbers ≡ pastOf time k t change p
-    unfolding changeFrom
-    from-rest quiet =
-        ap (λ (b : Bool). cond b (nextChange c time then (kept c then) n) (pendingIn time numbers)) (and-last (isInner c n) (touched c first then n) (untouched quiet))
-        ∙ ap (pendingAfter time) (entry-at changePlace (omega arith) ∙ ap (λ (x : ℕ). numberAt k t x p) (entries-change before after change (e .first .long) (e .second .long)))
+    module _ (node : Noded net n) where
+      -- beyond the group nothing reaches, so the node is not reconsidered
+      untouched : stirredFor c before after n ≡ false → touched c (reach c first then) first then n ≡ false
+      untouched quiet =
+          ⊎-elim
+          (λ (q : touched c (reach c first then) first then n ≡ true).
+          true-false (touched c (groups c) first then n) (reached-group c (laid-legal net cell) first then n (record { least = node .least; most = omega (arith, node .most, size) }) q) (group-still quiet))
+          (λ (q : touched c (reach c first then) first then n ≡ false). q)
+          (bool-cases (touched c (reach c first then) first then n))
 
-    pub rest-change : (all : Bool) → (isInner (netCircuit net) n ≡ true → (all ≡ false) × (stirredFor (netCircuit net) before after n ≡ false))
-        → restOf (netCircuit net) time k t pending n p ≡ changeOf (netCircuit net) time all k t before after pending n p
-    rest-change all quiet = same-cond (isInner c n) _ _ _ (λ inner. rw (quiet inner .0) (sym (from-rest (quiet inner .1))))
+      -- and its pending change stays, but for T
+      from-rest : stirredFor c before after n ≡ false → changeFrom c time false n numbers ≡ pastOf time k t change p
+      unfolding changeFrom
+      from-rest quiet =
+          ap (λ (b : Bool). cond b (nextChange c time then (kept c then) n) (pendingIn time numbers)) (and-last (isInner c n) (touched c (reach c first then) first then n) (untouched quiet))
+          ∙ ap (pendingAfter time) (entry-at changePlace (omega arith) ∙ ap (λ (x : ℕ). numberAt k t x p) (entries-change before after change (e .first .long) (e .second .long)))
+
+      pub rest-change : (all : Bool) → (isInner (netCircuit net) n ≡ true → (all ≡ false) × (stirredFor (netCircuit net) before after n ≡ false))
+          → restOf (netCircuit net) time k t pending n p ≡ changeOf (netCircuit net) time all k t before after pending n p
+      rest-change all quiet = same-cond (isInner c n) _ _ _ (λ inner. rw (quiet inner .0) (sym (from-rest (quiet inner .1))))
 
 -- where nothing is stirred nothing is stirred for a node
 none-for : (c : Circuit) (before after : List ℕ) (n : ℕ) → stirredBy c before after ≡ false → stirredFor c before after n ≡ false
@@ -156,4 +170,4 @@ rest-stored {net} {l} {w} {h} {used = used} cell o {before} {after} {pending} e 
     let t : Table = held l w h used in
     subst (λ (s : StoredAll). OutcomeAll t s l1 w1 h1 ix1 stop most out)
     (nodes-stored (at net lettersPlace) (restOf (netCircuit net) time (at net lettersPlace) t pending) (changeOf (netCircuit net) time all (at net lettersPlace) t before after pending) (length (netCircuit net .nodes)) t
-    (λ n p least less q. rest-change cell e time n p all (λ _. (off, none-for (netCircuit net) before after n quiet))))
+    (λ n p least less q. rest-change cell e time n p (record { least = least; most = omega (arith, nodes-length net) }) all (λ _. (off, none-for (netCircuit net) before after n quiet))))

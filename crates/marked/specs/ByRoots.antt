@@ -9,14 +9,14 @@ use Rattle.cell.specs.Value.{firsts}
 use Rattle.diagram.specs.Table.{Table, never}
 use Rattle.rules.specs.State.{isInner}
 use Rattle.net.specs.Net.{lettersPlace, at, netCircuit}
-use Rattle.net.specs.Roots.{leafLength, touchedPlace, allPendingPlace}
+use Rattle.net.specs.Roots.{pendingPlace}
 use Rattle.plain.specs.Ready.{Net, Noded}
 use Rattle.descent.specs.Settle.{settledBy}
 use Rattle.descent.specs.Descend.{Rooted}
 
 -- the roots of a descent for node n among the roots of a step
 abbrev pub rootsFor : List ℕ → ℕ → List ℕ
-rootsFor roots n = firsts leafLength 0 roots ++ getD roots (touchedPlace + n) 0 ∷ getD roots (allPendingPlace + n) 0 ∷ []
+rootsFor roots n = firsts pendingPlace 0 roots ++ getD roots (pendingPlace + n) 0 ∷ []
 
 -- the next change of node n at a pattern: an input has none
 abbrev pub settledFor : Circuit → ℕ → ℕ → Table → List ℕ → ℕ → ℕ → ℕ

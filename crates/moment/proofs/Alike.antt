@@ -12,13 +12,14 @@ use Rattle.format.specs.Circuit.{Circuit}
 use Rattle.diagram.specs.Table.{never}
 use Rattle.rules.specs.State.{State, valueAt, changeAt, isDriven, isInner, nodeNumbers}
 use Rattle.rules.specs.Arrive.{arrived}
-use Rattle.rules.specs.Group.{Labels, some, ofGroup, disturbed, touched, reconsidered}
+use Rattle.rules.specs.Label.{Labels, pieces, ofPiece, some, only}
+use Rattle.rules.specs.Reach.{conductsAround, reach, disturbed, touched, reconsidered}
 use Rattle.rules.specs.Kept.{afterKept, keptFrom, kept}
 use Rattle.rules.specs.Step.{nextChange, stepped, initial, started}
 use Rattle.rules.proofs.State.{Numbered, Shaped}
 use Rattle.rules.proofs.Arrive.{arrived-shaped, arrived-change, stepped-change}
 use Rattle.rules.proofs.Step.{initial-shaped, initial-change, started-change}
-use Rattle.rules.proofs.Local.{only, touches, Shared, Local, change-local}
+use Rattle.rules.proofs.Local.{touches, Shared, Local, change-local}
 use Rattle.net.specs.Roots.{afterPlace, changePlace}
 use Rattle.plain.specs.Settle.{pendingAfter}
 use Rattle.descent.proofs.Channels.{leaf-change, leaf-values}
@@ -31,11 +32,13 @@ Alike s z = (m : ℕ) → valueAt s m ≡ valueAt z m
 module _ (c : Circuit) where
   -- the same nodes are reconsidered
   pub reconsidered-alike : (b a y z : State) → Alike b y → Alike a z → (n : ℕ) → reconsidered c b a n ≡ reconsidered c y z n
-  unfolding touched
+  unfolding touched reach
   reconsidered-alike b a y z hb ha n =
+      let on : (t : Transistor) → conductsAround b a t ≡ conductsAround y z t = λ t. rw (hb (t .gate), ha (t .gate)) in
       let each : (t : Transistor) → disturbed c b a t ≡ disturbed c y z t =
       λ t. rw (hb (t .gate), ha (t .gate), hb (t .first), ha (t .first), hb (t .second), ha (t .second)) in
-      ap (λ (f : Transistor → Bool). isInner c n && some f (c .transistors)) (λ i t. ofGroup c n t && each t i)
+      ap₂ (λ (f g : Transistor → Bool). isInner c n && some (λ (t : Transistor). ofPiece c (pieces c (only f (c .transistors))) n t && g t) (c .transistors))
+      (λ i t. on t i) (λ i t. each t i)
 
   module _ (s z : State) (h : Alike s z) where
     kept-from : (ls : Labels) (i : ℕ) (ts : List Transistor) → keptFrom c s ls i ts ≡ keptFrom c z ls i ts

@@ -82,7 +82,7 @@ fn gathered(time: u32, values: [u32; 24], c: Many) -> Next
     }
 }
 
-// A start: the sources, and every group touched at time 0.
+// A start: the sources, and every inner node reconsidered at time 0.
 pub fn start(
     net: &[u32],
     letter: &mut [u32],

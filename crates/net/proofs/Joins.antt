@@ -2,11 +2,11 @@
 use mathlib.Core.Path.{_≡_, refl, sym, _∙_, ap, subst}
 use mathlib.Core.Logic.{_⊎_, ⊎-elim}
 use mathlib.Core.Bool.{Bool, true, false, _&&_, cond}
-use mathlib.Core.List.{List, [], _∷_, _++_, map}
-use Prim.Native.Nat.{ℕ, zero, suc, _+_, _-_, _≤_, _<_}
+use mathlib.Core.List.{List, [], _∷_, _++_}
+use Prim.Native.Nat.{ℕ, _+_, _-_, _≤_, _<_}
 use native.Mathlib.Numerals.{add-one}
 use native.Mathlib.Omega.{arith}
-use lib.ListN.{length, getD, take, set, length-map}
+use lib.ListN.{length, getD, take, set}
 use lib.Seq.{take-suc, take-all, getD-set-same, getD-set-other}
 use lib.Dec.{eqb}
 use borrow.Author.Tests.{eq-eqb, ne-eqb}
@@ -15,7 +15,8 @@ use Rattle.lists.proofs.Map.{map-at}
 use Rattle.format.specs.declared.Transistor.{Transistor}
 use Rattle.format.specs.Circuit.{Circuit, noTransistor}
 use Rattle.rules.specs.State.{upFrom, nodeNumbers, isInner}
-use Rattle.rules.specs.Group.{Labels, labelAt, join, betweenInner, linkFrom, groups}
+use Rattle.rules.specs.Label.{Labels, labelAt, join, betweenInner, linkFrom}
+use Rattle.rules.specs.Group.{groups}
 use Rattle.rules.proofs.State.{up-length, up-at}
 use Rattle.rules.proofs.Label.{inner-node, length-join}
 use Rattle.net.specs.Net.{netLength, at, netTransistor, netCircuit}

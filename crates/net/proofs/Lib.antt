@@ -1,6 +1,7 @@
 pub mod Only
 pub mod Rows
 pub mod Laying
+pub mod NodeArms
 pub mod Listed
 pub mod Joins
 pub mod Loops

@@ -11,7 +11,7 @@ use Rattle.format.specs.declared.Transistor.{Transistor}
 use Rattle.format.specs.Circuit.{Circuit}
 use Rattle.format.proofs.Legal.{LegalTransistor, LegalCell}
 use Rattle.rules.specs.State.{State}
-use Rattle.rules.specs.Group.{Labels, joined, join, betweenInner}
+use Rattle.rules.specs.Label.{Labels, joined, join, betweenInner}
 use Rattle.rules.specs.Kept.{conducts, keeps, afterKept}
 use Rattle.rules.proofs.State.{up-length}
 use Rattle.rules.proofs.Label.{IsNode, Joined, Through, join-exactly, ends-inner, length-join}

@@ -3,18 +3,19 @@ use mathlib.Core.Path.{_≡_, refl, sym, _∙_, ap, subst}
 use mathlib.Core.List.{List}
 use Prim.Native.Nat.{ℕ, _+_, _*_, _≤_, _<_}
 use native.Mathlib.Omega.{arith}
-use lib.ListN.{length, getD, take, drop, replicate, length-take, length-drop, length-replicate}
+use lib.ListN.{length, take, drop, replicate, length-take, length-drop, length-replicate}
 use lib.Seq.{ext-getD, getD-take, getD-drop}
 use Rattle.refusal.specs.Answer.{answered}
 use Rattle.format.specs.Circuit.{Circuit}
 use Rattle.format.specs.Legal.{checkCircuit}
 use Rattle.lists.proofs.Padded.{replicate-read}
-use Rattle.rules.specs.Group.{labelAt, groups}
+use Rattle.rules.specs.Label.{labelAt}
+use Rattle.rules.specs.Group.{groups}
 use Rattle.net.specs.Net.{netLength, at, netCircuit, netArms, armsOf}
 use mathlib.Core.Bool.{false}
 use Rattle.net.specs.Loop.{closes}
 use Rattle.net.specs.Laid.{Within, Laid}
-use Rattle.net.specs.Written.{OnlyAt, Fielded, Armed, Grouped}
+use Rattle.net.specs.Written.{Fielded, Armed, Grouped}
 use Rattle.net.proofs.Laying.{nodes-length, transistors-length, legal-within, Same, same-only, same-circuit, same-within}
 use Rattle.net.proofs.Listed.{armed-all}
 use Rattle.net.proofs.Joins.{length-groups}

@@ -10,7 +10,8 @@ use Rattle.format.specs.declared.Entry.{Entry}
 use Rattle.format.specs.Circuit.{Circuit, firstNodeNumber}
 use Rattle.format.specs.Legal.{mostNodes, mostTransistors, mostEntries, mostLetters, mostHorizon, mostCapacitance, mostResistance, checkCircuit}
 use mathlib.Core.Bool.{false}
-use Rattle.rules.specs.Group.{labelAt, groups}
+use Rattle.rules.specs.Label.{labelAt}
+use Rattle.rules.specs.Group.{groups}
 use Rattle.net.specs.Net.{nodesPlace, transistorsPlace, entriesPlace, lettersPlace, horizonPlace, degreePlace, loopsPlace, netLength, at, netNode, netTransistor, netEntry, netCircuit, netArms, armsOf, netGroup}
 use Rattle.net.specs.Loop.{closes}
 

@@ -1,12 +1,11 @@
 -- Loops of channels between inner nodes: a transistor whose ends those before it have linked already, conducting or not.
-use mathlib.Core.List.{List}
 use mathlib.Core.Bool.{Bool, _&&_}
 use Prim.Native.Nat.{ℕ}
 use lib.ListN.{getD, take}
 use Rattle.format.specs.declared.Transistor.{Transistor}
 use Rattle.format.specs.Circuit.{Circuit, noTransistor}
 use Rattle.rules.specs.State.{nodeNumbers}
-use Rattle.rules.specs.Group.{Labels, joined, betweenInner, linkFrom}
+use Rattle.rules.specs.Label.{Labels, joined, betweenInner, linkFrom}
 
 -- the labels after the first k transistors
 abbrev pub linkedTo : Circuit → ℕ → Labels

@@ -1,5 +1,5 @@
--- The places of a step's functions in one list: a value for each node by number, rails among them, and whether each transistor is
--- kept; then whether a node is touched, and its pending change: of one node, or of every node by number.
+-- The places of a step's functions in one list: a value for each node by number, rails among them, whether each transistor is kept, and
+-- whether each node is a seed, an inner node at an end of a disturbed transistor; then the pending change, of one node or of every node by number.
 use Prim.Native.Nat.{ℕ}
 
 -- behind 26 values, one for each of 64 transistors
@@ -10,20 +10,18 @@ keptPlace = 26
 abbrev pub leafLength : ℕ
 leafLength = 90
 
-abbrev pub touchedPlace : ℕ
-touchedPlace = 90
+-- behind them one for each node
+abbrev pub seedsPlace : ℕ
+seedsPlace = 90
 
--- of one node
 abbrev pub pendingPlace : ℕ
-pendingPlace = 91
+pendingPlace = 116
 
+-- with the pending change of one node
 abbrev pub rootsLength : ℕ
-rootsLength = 92
+rootsLength = 117
 
--- of every node
-abbrev pub allPendingPlace : ℕ
-allPendingPlace = 116
-
+-- with that of every node
 abbrev pub allRootsLength : ℕ
 allRootsLength = 142
 

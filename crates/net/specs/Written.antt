@@ -10,7 +10,8 @@ use Rattle.format.specs.declared.Transistor.{Transistor}
 use Rattle.format.specs.declared.Entry.{Entry}
 use Rattle.format.specs.declared.Header.{Header}
 use Rattle.format.specs.Circuit.{Circuit, firstNodeNumber}
-use Rattle.rules.specs.Group.{Labels, labelAt, join, betweenInner, groups}
+use Rattle.rules.specs.Label.{Labels, labelAt, join, betweenInner}
+use Rattle.rules.specs.Group.{groups}
 use Rattle.net.specs.Net.{nodesPlace, transistorsPlace, entriesPlace, lettersPlace, horizonPlace, rolePlace, startPlace, capacitancePlace, polarityPlace, gatePlace, firstPlace, secondPlace, resistancePlace, inputPlace, sourcePlace, timePlace, degreePlace, armsPlace, groupPlace, loopsPlace, netLength, at, netCircuit, armsFrom, netArms}
 use Rattle.net.specs.Loop.{closes}
 

@@ -5,7 +5,7 @@ ghost use lib.ListN.{length};
 ghost use Rattle.format.specs.Circuit.{firstNodeNumber};
 ghost use Rattle.format.specs.Legal.{isInput};
 ghost use Rattle.rules.specs.State.{isInner};
-ghost use Rattle.rules.specs.Group.{betweenInner};
+ghost use Rattle.rules.specs.Label.{betweenInner};
 ghost use Rattle.net.specs.Net.{nodesPlace, transistorsPlace, netLength, at as atPlace, netTransistor, netCircuit};
 ghost use Rattle.net.specs.Laid.{Within};
 

@@ -11,7 +11,7 @@ use Rattle.lists.proofs.Cases.{bool-cases, and-left, and-right}
 use Rattle.format.specs.declared.Transistor.{Transistor}
 use Rattle.format.specs.Circuit.{Circuit}
 use Rattle.rules.specs.State.{State, isInner}
-use Rattle.rules.specs.Group.{Labels, labelAt, joined, join, betweenInner}
+use Rattle.rules.specs.Label.{Labels, labelAt, joined, join, betweenInner}
 use Rattle.rules.specs.Kept.{Channel, conducts, keeps, afterKept, keptFrom}
 use Rattle.rules.proofs.Label.{IsNode, inner-node, length-join}
 use Rattle.net.specs.Laid.{TransistorWithin}

@@ -15,7 +15,7 @@ use Rattle.lists.proofs.Padded.{replicate-read}
 use Rattle.format.specs.declared.Transistor.{Transistor}
 use Rattle.format.specs.Circuit.{Circuit, noTransistor}
 use Rattle.rules.specs.State.{State, nodeNumbers}
-use Rattle.rules.specs.Group.{Labels, join, betweenInner}
+use Rattle.rules.specs.Label.{Labels, join, betweenInner}
 use Rattle.rules.specs.Kept.{Channel, keeps, afterKept, kept, keptFrom}
 use Rattle.rules.proofs.State.{up-length, up-at}
 use Rattle.net.specs.Net.{at, netCircuit}

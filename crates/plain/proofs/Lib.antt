@@ -8,7 +8,7 @@ pub mod Walks
 pub mod Next
 pub mod Meet
 pub mod Values
-pub mod Groups
+pub mod Pieces
 pub mod Flags
 pub mod Leaves
 pub mod Ready

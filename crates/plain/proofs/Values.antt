@@ -1,25 +1,24 @@
 -- Laws of the values that a column shows.
-use mathlib.Core.Path.{_≡_, refl, sym, _∙_, ap, ap₂}
+use mathlib.Core.Path.{_≡_, sym, _∙_, ap, ap₂}
 use mathlib.Core.Logic.{⊎-elim}
-use mathlib.Core.Bool.{Bool, not, _&&_, _||_}
+use mathlib.Core.Bool.{not}
 use mathlib.Core.List.{List}
 use Prim.Native.Nat.{ℕ, zero, suc, _+_, _-_, _≤_, _<_}
 use native.Mathlib.Omega.{arith}
-use lib.ListN.{length, getD, take, drop}
+use lib.ListN.{length, getD, drop}
 use lib.Seq.{getD-take, getD-drop}
 use lib.Dec.{eqb}
 use Rattle.lists.proofs.Cases.{lt-or-ge}
 use Rattle.format.specs.declared.Transistor.{Transistor}
 use Rattle.format.specs.Circuit.{Circuit, noTransistor}
-use Rattle.format.specs.Legal.{isInput}
 use Rattle.rules.specs.State.{State, valueAt}
 use Rattle.rules.specs.Arrive.{changed}
-use Rattle.rules.specs.Group.{disturbed}
+use Rattle.rules.specs.Reach.{disturbed}
 use Rattle.rules.proofs.State.{rail-value, value-place}
-use Rattle.net.specs.Net.{at, netTransistor, netCircuit}
+use Rattle.net.specs.Net.{at, netCircuit}
 use Rattle.net.specs.Laid.{Laid, TransistorWithin}
 use Rattle.net.proofs.Laying.{nodes-length, transistors-length, transistor-at}
-use Rattle.plain.specs.Shown.{Column, Shows, changedAt, inputChangedAt, disturbedAt}
+use Rattle.plain.specs.Shown.{Column, Shows, changedAt, disturbedAt}
 
 rail-shown : (column : List ℕ) → Column column → (n : ℕ) → n < 2 → n ≡ getD column n 0
 rail-shown column w zero h = sym (w .ground)

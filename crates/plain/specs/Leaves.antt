@@ -8,8 +8,8 @@ use lib.Dec.{eqb}
 use Rattle.format.specs.declared.Transistor.{Transistor}
 use Rattle.format.specs.Circuit.{Circuit}
 use Rattle.rules.specs.State.{State, nodeNumbers}
-use Rattle.rules.specs.Group.{Labels, join, betweenInner}
-use Rattle.rules.specs.Kept.{kept, keptFrom, afterKept}
+use Rattle.rules.specs.Label.{Labels, join, betweenInner, pieces, only}
+use Rattle.rules.specs.Kept.{conducts, kept, keptFrom, afterKept}
 use Rattle.net.specs.Net.{transistorsPlace, at, netCircuit}
 use Rattle.net.specs.Written.{OnlyAt, Labelled}
 use Rattle.net.specs.Roots.{keptPlace, leafLength}
@@ -52,3 +52,8 @@ pub record KeptLeaf (net values leaf : List ℕ) : Type 0 where
   pub bits : (i : ℕ) → getD leaf (keptPlace + i) 0 ≤ 1
   pub none : (i : ℕ) → at net transistorsPlace ≤ i → getD leaf (keptPlace + i) 0 ≡ 0
   pub channels : (s : State) → Shows (netCircuit net) values s → leafChannels (netCircuit net) leaf ≡ kept (netCircuit net) s
+
+-- labels by node number of the pieces into which the channels that conduct in a state with these values part the inner nodes
+pub record Parted (net values labels : List ℕ) : Type 0 where
+  pub long : length labels ≡ 26
+  pub label : (s : State) → Shows (netCircuit net) values s → Labelled labels 0 (pieces (netCircuit net) (only (conducts s) (netCircuit net .transistors)))

@@ -8,7 +8,7 @@ use lib.Dec.{eqb}
 use Rattle.format.specs.Circuit.{Circuit, firstNodeNumber}
 use Rattle.diagram.specs.Table.{never}
 use Rattle.rules.specs.State.{State, changeAt, isInner}
-use Rattle.rules.specs.Group.{reconsidered}
+use Rattle.rules.specs.Reach.{reconsidered}
 use Rattle.rules.specs.Kept.{kept}
 use Rattle.rules.specs.Step.{nextChange}
 use Rattle.net.specs.Net.{nodesPlace, at, netCircuit}

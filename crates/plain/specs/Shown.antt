@@ -8,7 +8,7 @@ use lib.Dec.{eqb}
 use Rattle.format.specs.declared.Transistor.{Transistor}
 use Rattle.format.specs.Circuit.{Circuit, firstNodeNumber}
 use Rattle.format.specs.Legal.{isInput}
-use Rattle.rules.specs.State.{State}
+use Rattle.rules.specs.State.{State, isInner}
 
 -- 26 values; a rail's is its number
 pub record Column (column : List ℕ) : Type 0 where
@@ -30,3 +30,10 @@ inputChangedAt c before after n = isInput c n && changedAt before after n
 abbrev pub disturbedAt : Circuit → List ℕ → List ℕ → Transistor → Bool
 disturbedAt c before after t =
     changedAt before after (t .gate) || inputChangedAt c before after (t .first) || inputChangedAt c before after (t .second)
+
+-- and off labels
+abbrev pub inPieceAt : Circuit → List ℕ → ℕ → ℕ → Bool
+inPieceAt c labels n m = isInner c m && eqb (getD labels n 0) (getD labels m 0)
+
+abbrev pub ofPieceAt : Circuit → List ℕ → ℕ → Transistor → Bool
+ofPieceAt c labels n t = inPieceAt c labels n (t .first) || inPieceAt c labels n (t .second)

@@ -1,21 +1,20 @@
 // Step rule 3: which transistors are kept, by rising number.
+use crate::Kept;
 use net::inner::between_inner;
 use net::labels;
 use net::roots::KEPT;
 use net::roots::LEAF;
 use net::roots::VALUES;
 ghost use mathlib.Core.Path.{_≡_};
-ghost use mathlib.Core.Bool.{_&&_, not, cond};
-ghost use Prim.Native.Nat.{ℕ, _+_, _-_, _<_, _≤_};
-ghost use lib.Dec.{eqb};
+ghost use mathlib.Core.Bool.{cond};
+ghost use Prim.Native.Nat.{ℕ, _+_, _-_, _<_};
 ghost use lib.ListN.{length, getD};
-ghost use Rattle.rules.specs.Group.{betweenInner};
 ghost use Rattle.net.specs.Net.{transistorsPlace, netTransistor, netCircuit};
 ghost use Rattle.net.specs.Laid.{Laid};
 ghost use Rattle.net.specs.Written.{Row};
 ghost use Rattle.net.specs.Roots.{leafLength};
 ghost use Rattle.plain.specs.Shown.{Column};
-ghost use Rattle.plain.specs.Leaves.{conductsAt, keepsAt, EndsJoined, OneKept, KeptTo, KeptLeaf};
+ghost use Rattle.plain.specs.Leaves.{conductsAt, keepsAt, EndsJoined, OneKept, KeptTo, KeptLeaf, Parted};
 
 fn conducts(net: &[u32], values: &[u32], i: u32) -> bool
     requires { ⌜ Laid (netCircuit (now net)) (now net) ⌝ }
@@ -98,16 +97,16 @@ fn keep_all(net: &[u32], values: &[u32], leaf: &mut [u32], labels: &mut [u32])
     }
 }
 
-// The leaf of a pattern's values.
-pub fn kept(net: &[u32], values: &[u32]) -> [u32; LEAF]
+// The leaf of a pattern's values, and the pieces of its nodes.
+pub fn kept(net: &[u32], values: &[u32]) -> Kept
     requires { ⌜ Laid (netCircuit (now net)) (now net) ⌝ }
     requires { ⌜ Column (now values) ⌝ }
-    ensures { λ r. ⌜ KeptLeaf (now (net .entry)) (now (values .entry)) r ⌝ }
+    ensures { λ r. ⌜ KeptLeaf (now (net .entry)) (now (values .entry)) (r .leaf) × Parted (now (net .entry)) (now (values .entry)) (r .labels) ⌝ }
 {
     let mut leaf = [0u32; LEAF];
     let mut labels = [0u32; 26];
     copy(&mut leaf, values);
     labels::start(&mut labels, 0);
     keep_all(net, values, &mut leaf, &mut labels);
-    leaf
+    Kept { leaf, labels }
 }

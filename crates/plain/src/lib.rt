@@ -12,6 +12,7 @@ pub mod sums;
 pub mod time;
 pub mod touch;
 
+use net::roots::LEAF;
 use units::Femtofarads;
 use units::Resistance;
 
@@ -27,6 +28,12 @@ pub struct Sum {
 pub struct Load {
     pub resistance: Resistance,
     pub charge: Femtofarads,
+}
+
+// The leaf of a pattern's values (net::roots), and labels by node number: nodes that conducting channels join have one.
+pub struct Kept {
+    pub leaf: [u32; LEAF],
+    pub labels: [u32; 26],
 }
 
 // The state of one pattern: values and next changes by node number, those of the rails in front. Places past the node records are not

@@ -14,7 +14,7 @@ ghost use Rattle.net.specs.Net.{nodesPlace, netCircuit};
 ghost use Rattle.plain.specs.Leaf.{leafChange};
 ghost use Rattle.plain.specs.Ready.{Noded, Ready};
 ghost use Rattle.plain.specs.Shown.{Shows};
-ghost use Rattle.plain.specs.Leaves.{KeptLeaf};
+ghost use Rattle.plain.specs.Leaves.{KeptLeaf, Parted};
 ghost use Rattle.plain.specs.Settle.{pendingAfter, considers, changeBetween, Between};
 
 // The pending change once T has happened.
@@ -28,14 +28,21 @@ pub fn pending_after(time: u32, pending: u32) -> u32
 }
 
 // Whether node n is reconsidered between these values; where `all`, every inner node is.
-pub fn considered(net: &[u32], before: &[u32], after: &[u32], all: bool, n: u32) -> bool
-    requires { ⌜ Between (now net) (now before) (now after) × (n < firstNodeNumber + getD (now net) nodesPlace 0) ⌝ }
+pub fn considered(
+    net: &[u32],
+    labels: &[u32],
+    before: &[u32],
+    after: &[u32],
+    all: bool,
+    n: u32,
+) -> bool
+    requires { ⌜ Between (now net) (now before) (now after) × Parted (now net) (now after) (now labels) × (n < firstNodeNumber + getD (now net) nodesPlace 0) ⌝ }
     ensures { λ r. ⌜ ((s t : State) → Shows (netCircuit (now (net .entry))) (now (before .entry)) s → Shows (netCircuit (now (net .entry))) (now (after .entry)) t → r ≡ considers (netCircuit (now (net .entry))) all s t n) ⌝ }
 {
     if all {
         return is_inner(net, n);
     }
-    touched(net, before, after, n)
+    touched(net, labels, before, after, n)
 }
 
 // The next change of node n, which is reconsidered, by its leaf.
@@ -58,10 +65,11 @@ pub fn settled(net: &[u32], leaf: &[u32], moves: bool, time: u32, pending: u32, 
     moved(net, leaf, time, pending, n)
 }
 
-// The next change of node n between these values, by the leaf of those after T.
+// The next change of node n between these values, by the leaf and the pieces of those after T.
 pub fn change_by(
     net: &[u32],
     leaf: &[u32],
+    labels: &[u32],
     before: &[u32],
     after: &[u32],
     pending: u32,
@@ -69,14 +77,14 @@ pub fn change_by(
     all: bool,
     n: u32,
 ) -> u32
-    requires { ⌜ Between (now net) (now before) (now after) × KeptLeaf (now net) (now after) (now leaf) × Noded (now net) n ⌝ }
+    requires { ⌜ Between (now net) (now before) (now after) × KeptLeaf (now net) (now after) (now leaf) × Parted (now net) (now after) (now labels) × Noded (now net) n ⌝ }
     ensures { λ r. ⌜ ((s t : State) → Shows (netCircuit (now (net .entry))) (now (before .entry)) s → Shows (netCircuit (now (net .entry))) (now (after .entry)) t → changeAt t n ≡ pendingAfter time pending → r ≡ changeBetween (netCircuit (now (net .entry))) time all s t n) ⌝ }
 {
-    let moves = considered(net, before, after, all, n);
+    let moves = considered(net, labels, before, after, all, n);
     settled(net, leaf, moves, time, pending, n)
 }
 
-// The same for one node alone: transistors are looked at only where it is reconsidered.
+// The same for one node alone.
 pub fn change(
     net: &[u32],
     before: &[u32],
@@ -89,9 +97,8 @@ pub fn change(
     requires { ⌜ Between (now net) (now before) (now after) × Noded (now net) n ⌝ }
     ensures { λ r. ⌜ ((s t : State) → Shows (netCircuit (now (net .entry))) (now (before .entry)) s → Shows (netCircuit (now (net .entry))) (now (after .entry)) t → changeAt t n ≡ pendingAfter time pending → r ≡ changeBetween (netCircuit (now (net .entry))) time all s t n) ⌝ }
 {
-    if !considered(net, before, after, all, n) {
-        return pending_after(time, pending);
-    }
-    let leaf = kept(net, after);
-    settled(net, &leaf, true, time, pending, n)
+    let parts = kept(net, after);
+    let leaf = parts.leaf;
+    let labels = parts.labels;
+    change_by(net, &leaf, &labels, before, after, pending, time, all, n)
 }

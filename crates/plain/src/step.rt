@@ -30,12 +30,24 @@ fn changes_after(
     requires { ⌜ Between (now net) (now before) (now after) × (length (now pending) ≡ 26) ⌝ }
     ensures { λ r. ⌜ ((s t : rules.State) → Showing (now (net .entry)) time (now (before .entry)) (now (after .entry)) (now (pending .entry)) s t → Filled never never (changeBetween (netCircuit (now (net .entry))) time all s t) (firstNodeNumber + atPlace (now (net .entry)) nodesPlace) r) ⌝ }
 {
-    let leaf = kept(net, after);
+    let parts = kept(net, after);
+    let leaf = parts.leaf;
+    let labels = parts.labels;
     let past = 2 + net[NODES] as usize;
     let mut changes = [NEVER; 26];
     let mut n: usize = 2;
     while n < past {
-        changes[n] = change_by(net, &leaf, before, after, pending[n], time, all, n as u32);
+        changes[n] = change_by(
+            net,
+            &leaf,
+            &labels,
+            before,
+            after,
+            pending[n],
+            time,
+            all,
+            n as u32,
+        );
         n += 1;
     }
     changes

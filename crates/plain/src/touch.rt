@@ -1,17 +1,16 @@
-// Step rule 2: whether a node's group is touched.
+// Step rule 2: whether a node's piece holds an end of a disturbed transistor.
 use net::inner::is_inner;
 use net::inner::is_input;
 ghost use mathlib.Core.Path.{_≡_};
-ghost use mathlib.Core.Bool.{_&&_};
-ghost use Prim.Native.Nat.{_+_, _<_, _≤_};
+ghost use Prim.Native.Nat.{_+_, _<_};
 ghost use lib.ListN.{length, getD};
 ghost use Rattle.format.specs.Circuit.{firstNodeNumber};
-ghost use Rattle.format.specs.Legal.{isInput};
 ghost use Rattle.rules.specs.State.{State};
-ghost use Rattle.rules.specs.Group.{inGroup, ofGroup, reconsidered};
+ghost use Rattle.rules.specs.Reach.{reconsidered};
 ghost use Rattle.net.specs.Net.{nodesPlace, transistorsPlace, netTransistor, netCircuit};
 ghost use Rattle.net.specs.Laid.{Laid};
-ghost use Rattle.plain.specs.Shown.{Column, Shows, changedAt, inputChangedAt, disturbedAt};
+ghost use Rattle.plain.specs.Shown.{Column, Shows, changedAt, inputChangedAt, disturbedAt, inPieceAt, ofPieceAt};
+ghost use Rattle.plain.specs.Leaves.{Parted};
 
 fn changed(before: &[u32], after: &[u32], n: u32) -> bool
     requires { ⌜ (length (now before) ≡ 26) × (length (now after) ≡ 26) × (n < 26) ⌝ }
@@ -42,31 +41,31 @@ pub fn disturbed(net: &[u32], before: &[u32], after: &[u32], i: u32) -> bool
         | input_changed(net, before, after, second)
 }
 
-// Node m is an inner node of node n's group.
-fn in_group(net: &[u32], n: u32, m: u32) -> bool
-    requires { ⌜ Laid (netCircuit (now net)) (now net) ⌝ }
-    requires { ⌜ (firstNodeNumber ≤ n) × (n < firstNodeNumber + getD (now net) nodesPlace 0) × (m < firstNodeNumber + getD (now net) nodesPlace 0) ⌝ }
-    ensures { λ r. ⌜ r ≡ inGroup (netCircuit (now (net .entry))) n m ⌝ }
+// Node m is an inner node of node n's piece, by labels.
+fn in_piece(net: &[u32], labels: &[u32], n: u32, m: u32) -> bool
+    requires { ⌜ Laid (netCircuit (now net)) (now net) × (length (now labels) ≡ 26) ⌝ }
+    requires { ⌜ (n < firstNodeNumber + getD (now net) nodesPlace 0) × (m < firstNodeNumber + getD (now net) nodesPlace 0) ⌝ }
+    ensures { λ r. ⌜ r ≡ inPieceAt (netCircuit (now (net .entry))) (now (labels .entry)) n m ⌝ }
 {
-    let one = net[net::GROUP + n as usize];
-    let other = net[net::GROUP + m as usize];
+    let one = labels[n as usize];
+    let other = labels[m as usize];
     is_inner(net, m) & (one == other)
 }
 
-// Transistor i has a channel end in node n's group.
-fn of_group(net: &[u32], n: u32, i: u32) -> bool
-    requires { ⌜ Laid (netCircuit (now net)) (now net) ⌝ }
-    requires { ⌜ (firstNodeNumber ≤ n) × (n < firstNodeNumber + getD (now net) nodesPlace 0) × (i < getD (now net) transistorsPlace 0) ⌝ }
-    ensures { λ r. ⌜ r ≡ ofGroup (netCircuit (now (net .entry))) n (netTransistor (now (net .entry)) i) ⌝ }
+// Transistor i has a channel end in node n's piece.
+fn of_piece(net: &[u32], labels: &[u32], n: u32, i: u32) -> bool
+    requires { ⌜ Laid (netCircuit (now net)) (now net) × (length (now labels) ≡ 26) ⌝ }
+    requires { ⌜ (n < firstNodeNumber + getD (now net) nodesPlace 0) × (i < getD (now net) transistorsPlace 0) ⌝ }
+    ensures { λ r. ⌜ r ≡ ofPieceAt (netCircuit (now (net .entry))) (now (labels .entry)) n (netTransistor (now (net .entry)) i) ⌝ }
 {
     let first = net[net::FIRST + i as usize];
     let second = net[net::SECOND + i as usize];
-    in_group(net, n, first) | in_group(net, n, second)
+    in_piece(net, labels, n, first) | in_piece(net, labels, n, second)
 }
 
-// Whether a step between these values reconsiders node n.
-pub fn touched(net: &[u32], before: &[u32], after: &[u32], n: u32) -> bool
-    requires { ⌜ Laid (netCircuit (now net)) (now net) ⌝ }
+// Whether a step between these values reconsiders node n, by the pieces that the channels conducting after T make.
+pub fn touched(net: &[u32], labels: &[u32], before: &[u32], after: &[u32], n: u32) -> bool
+    requires { ⌜ Laid (netCircuit (now net)) (now net) × Parted (now net) (now after) (now labels) ⌝ }
     requires { ⌜ Column (now before) × Column (now after) × (n < firstNodeNumber + getD (now net) nodesPlace 0) ⌝ }
     ensures { λ r. ⌜ ((s t : State) → Shows (netCircuit (now (net .entry))) (now (before .entry)) s → Shows (netCircuit (now (net .entry))) (now (after .entry)) t → r ≡ reconsidered (netCircuit (now (net .entry))) s t n) ⌝ }
 {
@@ -76,7 +75,7 @@ pub fn touched(net: &[u32], before: &[u32], after: &[u32], n: u32) -> bool
     let count = net[net::TRANSISTORS];
     let mut i: u32 = 0;
     while i < count {
-        if of_group(net, n, i) & disturbed(net, before, after, i) {
+        if of_piece(net, labels, n, i) & disturbed(net, before, after, i) {
             return true;
         }
         i += 1;

@@ -1,5 +1,5 @@
 -- The parts of a prepared step make its roots.
-use mathlib.Core.Path.{_≡_, sym, _∙_, ap, subst}
+use mathlib.Core.Path.{_≡_, refl, sym, _∙_, ap, ap₂, subst}
 use mathlib.Core.Logic.{_⊎_, inl, inr, ⊎-elim}
 use mathlib.Core.List.{List}
 use mathlib.Core.Bool.{Bool, true, false, not, _&&_, _||_, cond}
@@ -8,10 +8,9 @@ use native.Mathlib.Omega.{arith}
 use lib.ListN.{length, getD}
 use lib.Dec.{ltb, eqb}
 use borrow.Author.Tests.{lt-ltb, eqb-true, eq-eqb, ne-eqb}
-use Rattle.lists.proofs.Cases.{bool-cases, eq-or-ne, lt-or-ge, true-false, and-left, and-right, and-both, or-left}
+use Rattle.lists.proofs.Cases.{bool-cases, lt-or-ge, and-left, and-right, and-both, or-left}
 use Rattle.format.specs.declared.Transistor.{Transistor}
 use Rattle.format.specs.Circuit.{Circuit}
-use Rattle.format.proofs.Legal.{LegalCell}
 use Rattle.diagram.specs.Pattern.{patterns}
 use Rattle.diagram.specs.Table.{Table, numberAt}
 use Rattle.diagram.specs.Held.{held}
@@ -20,31 +19,31 @@ use Rattle.diagram.proofs.Add.{extends-trans}
 use Rattle.working.specs.Grown.{bit}
 use Rattle.working.specs.Many.{Filled}
 use Rattle.working.proofs.Grow.{open-three, open-few, open-sound}
-use Rattle.diagram.proofs.Number.{number-zeroth}
+use Rattle.diagram.proofs.Number.{number-zeroth, number-first}
 use Rattle.working.proofs.Fill.{number-kept, used-kept, filled-used}
 use Rattle.rules.specs.State.{State, isInner}
 use Rattle.rules.specs.Arrive.{changed}
-use Rattle.rules.specs.Group.{labelAt, joined, betweenInner, groups, inGroup, ofGroup, disturbed, touched, reconsidered}
+use Rattle.rules.specs.Label.{labelAt, joined, betweenInner}
+use Rattle.rules.specs.Group.{groups, inGroup, ofGroup}
+use Rattle.rules.specs.Reach.{touched, isSeed}
 use Rattle.rules.specs.Kept.{conducts}
-use Rattle.rules.proofs.Arrive.{some-same}
 use Rattle.rules.proofs.Label.{joined-refl}
 use Rattle.rules.specs.Matrix.{isKept, isHeld, transistorAt}
 use Rattle.rules.proofs.Matrix.{kept-by-labels, LookedAt, group-kept}
 use Rattle.net.specs.Net.{at, netCircuit, netGroup}
 use Rattle.net.specs.Laid.{Laid}
 use Rattle.net.proofs.Laying.{nodes-length, transistors-length}
-use Rattle.net.specs.Roots.{touchedPlace, allPendingPlace, allRootsLength}
-use Rattle.prepare.specs.Steps.{Shows, Bits, groupOf, considered, touchedBy, differs, touchedLabel, lookedAt, isOpen, KeptAll}
+use Rattle.net.specs.Roots.{seedsPlace, pendingPlace, allRootsLength}
+use Rattle.prepare.specs.Steps.{Shows, Bits, groupOf, considered, isConsidered, seedBy, seedNumber, differs, Active, lookedAt, isOpen, KeptAll}
 use Rattle.prepare.specs.Roots.{NodeRoots, KeptRoots, Roots}
 use Rattle.net.proofs.Loops.{kept-open}
-use Rattle.prepare.proofs.Reading.{laid-legal, laid-label, laid-least, group-other}
-use Rattle.prepare.proofs.Touching.{touched-same, bit-some}
+use Rattle.prepare.proofs.Reading.{laid-legal, laid-label, group-is}
+use Rattle.prepare.proofs.Seeding.{seed-same, bit-some}
 
--- a considered group by its label is touched as rule 2 says
-module _ (c : Circuit) (l : LegalCell c) (only n : ℕ) (so : considered only (labelAt (groups c) n) ≡ true) where
-  pub touched-rule : (before after : State) → touchedBy c only (changed before after) (c .transistors) (labelAt (groups c) n) ≡ touched c before after n
-  unfolding touched
-  touched-rule before after = some-same _ _ (c .transistors) (λ t m. ap (λ (b : Bool). (b && ofGroup c n t) && disturbed c before after t) so)
+-- a seed as rule 2 says
+seed-rule : (c : Circuit) (before after : State) (n : ℕ) → seedBy c (changed before after) n ≡ isSeed c before after n
+unfolding touched
+seed-rule c before after n = refl
 
 -- entries that changed, by states that show them
 differs-shown : (letters nodes : ℕ) (t : Table) (before after : List ℕ) (p : ℕ) (sb sa : State) → Shows letters t before nodes p sb → Shows letters t after nodes p sa → (n : ℕ) → n < 2 + nodes → differs (2 + nodes) letters t before after p n ≡ changed sb sa n
@@ -60,18 +59,19 @@ module _ {letters : ℕ} (t : Table) {t0 : Table} (after : List ℕ) (count : �
       ∙ ap (λ (z : Bool). cond z (numberAt letters t (getD after n 0) p) 0) (lt-ltb n count lt)
 
   module _ {f : ℕ → ℕ → ℕ} {l2 w2 h2 ix2 : List ℕ} {used2 : ℕ} {waiting : List ℕ} (w : Filled 26 letters (held l1 w1 h1 used1) f l2 w2 h2 ix2 used2 waiting) where
-    -- after the next changes and the touched functions
-    pub values-bits : {g : ℕ → ℕ → ℕ} {l3 w3 h3 ix3 : List ℕ} {used3 : ℕ} {marks : List ℕ} (m : Filled 26 letters (held l2 w2 h2 used2) g l3 w3 h3 ix3 used3 marks) {nodes : ℕ} → (count ≡ nodes + 2) × (nodes ≤ 24) → Bits letters t after (2 + nodes)
+    -- after the next changes and the seeds
+    pub values-bits : {g : ℕ → ℕ → ℕ} {l3 w3 h3 ix3 : List ℕ} {used3 : ℕ} {seeds : List ℕ} (m : Filled 26 letters (held l2 w2 h2 used2) g l3 w3 h3 ix3 used3 seeds) {nodes : ℕ} → (count ≡ nodes + 2) × (nodes ≤ 24) → Bits letters t after (2 + nodes)
         → Bits letters (held l3 w3 h3 used3) values (2 + nodes)
     values-bits m e bits n p lt hp = subst (λ (z : ℕ). z ≤ 1) (sym (value-in (extends-trans (w .extends) (m .extends)) n p (omega (arith, e .0)) (omega (arith, e .0, e .1)) hp)) (bits n p lt hp)
 
 module _ (net : List ℕ) (k : Laid (netCircuit net) net) {letters : ℕ} (t : Table) (before after pending : List ℕ) (all : Bool) (only count : ℕ) (is-count : count ≡ at net 0 + 2)
-    {t0 : Table} {l1 w1 h1 ix1 l2 w2 h2 ix2 l3 w3 h3 ix3 l4 w4 h4 ix4 : List ℕ} {used1 used2 used3 used4 : ℕ} {values waiting marks kept nodes roots : List ℕ}
+    {t0 : Table} {l1 w1 h1 ix1 l2 w2 h2 ix2 l3 w3 h3 ix3 l4 w4 h4 ix4 : List ℕ} {used1 used2 used3 used4 : ℕ} {values waiting seeds active kept nodes roots : List ℕ}
     (v : Filled 26 letters t0 (λ m p. cond (ltb m count) (numberAt letters t (getD after m 0) p) 0) l1 w1 h1 ix1 used1 values)
     (w : Filled 26 letters (held l1 w1 h1 used1) (λ m p. cond (ltb m count) (numberAt letters t (getD pending m 0) p) 0) l2 w2 h2 ix2 used2 waiting)
-    (m : Filled 26 letters (held l2 w2 h2 used2) (λ g p. bit (touchedLabel (netCircuit net) (2 + at net 0) letters t before after all only p g)) l3 w3 h3 ix3 used3 marks)
-    (q : KeptAll (netCircuit net) (at net 0) letters (held l3 w3 h3 used3) values marks (min (at net 2314) (at net 1)) (at net 1) l4 w4 h4 ix4 used4 kept)
-    (a : NodeRoots (netCircuit net) (at net 0) values marks waiting (2 + at net 0) nodes) (b : KeptRoots nodes kept 64 roots) where
+    (m : Filled 26 letters (held l2 w2 h2 used2) (λ n p. seedNumber (netCircuit net) (2 + at net 0) all only (differs (2 + at net 0) letters t before after p) n) l3 w3 h3 ix3 used3 seeds)
+    (g : Active (netCircuit net) (2 + at net 0) seeds active)
+    (q : KeptAll (netCircuit net) (at net 0) letters (held l3 w3 h3 used3) values active (min (at net 2314) (at net 1)) (at net 1) l4 w4 h4 ix4 used4 kept)
+    (a : NodeRoots values seeds waiting (2 + at net 0) nodes) (b : KeptRoots nodes kept 64 roots) where
   abbrev c : Circuit
   c = netCircuit net
 
@@ -97,74 +97,67 @@ module _ (net : List ℕ) (k : Laid (netCircuit net) net) {letters : ℕ} (t : T
   pending-last : (n p : ℕ) → n < 2 + at net 0 → p < patterns letters → numberAt letters last (getD waiting n 0) p ≡ numberAt letters t (getD pending n 0) p
   pending-last n p lt hp = value-in t pending count w second-on n p (omega arith) (omega arith) hp
 
-  mark-last : (g p : ℕ) → g < 26 → numberAt letters last (getD marks g 0) p ≡ numberAt letters third (getD marks g 0) p
-  mark-last g p hg = number-kept (m .opened) (q .extends) (getD marks g 0) p (filled-used m g hg)
+  -- a group whose transistors are looked at at a pattern is an active one
+  looked-active : (j p : ℕ) → j < 26 → numberAt letters third (getD active j 0) p ≡ 1 → getD active j 0 ≡ 1
+  looked-active j p h e =
+      let some : getD active j 0 ≡ 0 → ⊥ = λ z. omega (arith, e, ap (λ (x : ℕ). numberAt letters third x p) z ∙ number-zeroth third p (open-few (m .opened)) (open-sound (m .opened))) in
+      omega (arith, g .bits j h, some)
 
-  -- a group that is touched at a pattern has another function than entry 0
-  mark-some : (i p : ℕ) → lookedAt c letters third marks p i ≡ true → getD marks (groupOf c (transistorAt c i)) 0 ≡ 0 → ⊥
-  mark-some i p e z =
-      omega (arith, eqb-true (numberAt letters third (getD marks (groupOf c (transistorAt c i)) 0) p) 1 e, ap (λ (x : ℕ). numberAt letters third x p) z ∙ number-zeroth third p (open-few (m .opened)) (open-sound (m .opened)))
+  -- and where one is active, all of them are looked at
+  active-looked : (n p : ℕ) → getD active (labelAt (groups c) n) 0 ≡ 1 → LookedAt c (lookedAt c letters third active p) n
+  active-looked n p e i hi of =
+      eq-eqb _ 1
+      (ap (λ (x : ℕ). numberAt letters third x p) (ap (λ (x : ℕ). getD active x 0) (sym (group-is c (laid-legal net k) i hi n of)) ∙ e)
+      ∙ number-first third p (open-few (m .opened)) (open-sound (m .opened)))
 
-  -- the root of a touched function is its group's
-  module _ (n : ℕ) (lt : n < 2 + at net 0) (inner : isInner c n ≡ true) where
-    abbrev g : ℕ
-    g = labelAt (groups c) n
+  -- the rule keeps what is kept of an active group
+  group-rule : (n i p : ℕ) (sa : State) → p < patterns letters → Shows letters t after (at net 0) p sa → getD active (labelAt (groups c) n) 0 ≡ 1 → i < at net 1 → ofGroup c n (transistorAt c i) ≡ true
+      → numberAt letters last (getD roots (26 + i) 0) p ≡ bit (isKept c sa i)
+  group-rule n i p sa hp ha e hi of =
+      ap (λ (z : ℕ). numberAt letters last z p) (b .kept-at i (omega (arith, k .within .transistors)))
+      ∙ ⊎-elim
+      (λ (lt : i < min (at net 2314) (at net 1)).
+      q .kept-is i p sa lt hp (λ j hj. ha j hj ∙ sym (value-third j p hj hp))
+      ∙ ap bit (group-kept c (laid-legal net k) n sa (lookedAt c letters third active p) (active-looked n p e) i (omega (arith, transistors-length net)) of))
+      (λ (le : min (at net 2314) (at net 1) ≤ i).
+      let own : getD active (groupOf c (transistorAt c i)) 0 ≡ 1 = ap (λ (x : ℕ). getD active x 0) (sym (group-is c (laid-legal net k) i (omega (arith, transistors-length net)) n of)) ∙ e in
+      q .open-is i p sa le hi hp (λ j hj. ha j hj ∙ sym (value-third j p hj hp))
+      ∙ ap (λ (z : Bool). bit (not z && conducts sa (transistorAt c i))) (ne-eqb (getD active (groupOf c (transistorAt c i)) 0) 0 (λ z. omega (arith, own, z)))
+      ∙ ap bit (sym (kept-open c (laid-legal net k) sa i (omega (arith, transistors-length net)) (k .loops i (omega (arith, le, hi)) hi))))
+      (lt-or-ge i (min (at net 2314) (at net 1)))
 
-    label : (at net (2288 + n) ≡ labelAt (groups (netCircuit net)) n) × (at net (2288 + n) < 26)
-    label = laid-label net k n lt inner
+  -- the label of an inner node
+  small : (n : ℕ) → n < 2 + at net 0 → isInner c n ≡ true → labelAt (groups c) n < 26
+  small n lt inner = let label : (at net (2288 + n) ≡ labelAt (groups c) n) × (at net (2288 + n) < 26) = laid-label net k n lt inner in subst (λ (z : ℕ). z < 26) (label .0) (label .1)
 
-    small : g < 26
-    small = subst (λ (z : ℕ). z < 26) (label .0) (label .1)
+  -- the root that says whether a node is a seed
+  module _ (n : ℕ) (lt : n < 2 + at net 0) where
+    seed-root : getD roots (seedsPlace + n) 0 ≡ getD seeds n 0
+    seed-root = b .above-at (seedsPlace + n) (omega arith) ∙ a .seed-at n lt
 
-    least : 2 ≤ g
-    least = laid-least net k n lt inner
+    seed-number : (p : ℕ) → p < patterns letters → numberAt letters last (getD roots (seedsPlace + n) 0) p ≡ bit (isConsidered c only n && (all || seedBy c (differs (2 + at net 0) letters t before after p) n))
+    seed-number p hp =
+        ap (λ (e : ℕ). numberAt letters last e p) seed-root
+        ∙ number-kept (m .opened) (q .extends) (getD seeds n 0) p (filled-used m n (omega (arith, k .within .nodes)))
+        ∙ m .means n (omega (arith, k .within .nodes)) .number p hp
+        ∙ ap (λ (z : Bool). cond z (bit (isConsidered c only n && (all || seedBy c (differs (2 + at net 0) letters t before after p) n))) 0) (lt-ltb n (2 + at net 0) lt)
 
-    touched-root : getD roots (touchedPlace + n) 0 ≡ getD marks g 0
-    touched-root = b .above-at (touchedPlace + n) (omega arith) ∙ a .touched-at n lt ∙ ap (λ (z : Bool). cond z (getD marks g 0) 0) inner
+    module _ (inner : isInner c n ≡ true) where
+      seed-is : considered only (netGroup net n) ≡ true → (p : ℕ) (sb sa : State) → p < patterns letters → Shows letters t before (at net 0) p sb → Shows letters t after (at net 0) p sa
+          → numberAt letters last (getD roots (seedsPlace + n) 0) p ≡ bit (all || isSeed c sb sa n)
+      seed-is so p sb sa hp hb ha =
+          let own : isConsidered c only n ≡ true = and-both (isInner c n) (considered only (labelAt (groups c) n)) inner (subst (λ (z : ℕ). considered only z ≡ true) (laid-label net k n lt inner .0) so) in
+          seed-number p hp
+          ∙ ap₂ (λ (x y : Bool). bit (x && (all || y))) own
+          (seed-same c (laid-legal net k) (differs (2 + at net 0) letters t before after p) (changed sb sa)
+          (λ i hi. differs-shown letters (at net 0) t before after p sb sa hb ha i (omega (arith, nodes-length net))) n
+          ∙ seed-rule c sb sa n)
 
-    mark-number : (p : ℕ) → p < patterns letters → numberAt letters last (getD roots (touchedPlace + n) 0) p ≡ bit (touchedLabel c (2 + at net 0) letters t before after all only p g)
-    mark-number p hp = ap (λ (e : ℕ). numberAt letters last e p) touched-root ∙ mark-last g p small ∙ m .means g small .number p hp
-
-    module _ (so : considered only (netGroup net n) ≡ true) where
-      considered-label : considered only g ≡ true
-      considered-label = subst (λ (z : ℕ). considered only z ≡ true) (label .0) so
-
-      label-touched : (p : ℕ) (sb sa : State) → Shows letters t before (at net 0) p sb → Shows letters t after (at net 0) p sa → touchedLabel c (2 + at net 0) letters t before after all only p g ≡ all || reconsidered c sb sa n
-      label-touched p sb sa hb ha = by all
-        where
-          by : (z : Bool) → cond z (not (eqb g 0) && considered only g) (touchedBy c only (differs (2 + at net 0) letters t before after p) (c .transistors) g) ≡ z || reconsidered c sb sa n
-          by true = rw (ne-eqb g 0 (λ e. omega (arith, least)), considered-label)
-          by false =
-              touched-same c (laid-legal net k) only (differs (2 + at net 0) letters t before after p) (changed sb sa)
-              (λ i hi. differs-shown letters (at net 0) t before after p sb sa hb ha i (omega (arith, nodes-length net))) g
-              ∙ touched-rule c (laid-legal net k) only n considered-label sb sa
-              ∙ sym (ap (λ (z : Bool). z && touched c sb sa n) inner)
-
-      touched-is : (p : ℕ) (sb sa : State) → p < patterns letters → Shows letters t before (at net 0) p sb → Shows letters t after (at net 0) p sa → numberAt letters last (getD roots (touchedPlace + n) 0) p ≡ bit (all || reconsidered c sb sa n)
-      touched-is p sb sa hp hb ha = mark-number p hp ∙ ap bit (label-touched p sb sa hb ha)
-
-    -- where a group is touched, its transistors are looked at
-    looked : (p : ℕ) → numberAt letters last (getD roots (touchedPlace + n) 0) p ≡ 1 → LookedAt c (lookedAt c letters third marks p) n
-    looked p e i hi of =
-        ⊎-elim
-        (λ (same : g ≡ groupOf c (transistorAt c i)).
-        eq-eqb _ 1 (ap (λ (z : ℕ). numberAt letters third (getD marks z 0) p) (sym same) ∙ sym (mark-last g p small) ∙ sym (ap (λ (z : ℕ). numberAt letters last z p) touched-root) ∙ e))
-        (λ (ne : g ≡ groupOf c (transistorAt c i) → ⊥). true-false (ofGroup c n (transistorAt c i)) of (group-other c (laid-legal net k) i hi g ne))
-        (eq-or-ne g (groupOf c (transistorAt c i)))
-
-    kept-rule : (i p : ℕ) (sa : State) → p < patterns letters → Shows letters t after (at net 0) p sa → numberAt letters last (getD roots (touchedPlace + n) 0) p ≡ 1 → i < at net 1 → ofGroup c n (transistorAt c i) ≡ true
-        → numberAt letters last (getD roots (26 + i) 0) p ≡ bit (isKept c sa i)
-    kept-rule i p sa hp ha e hi of =
-        ap (λ (z : ℕ). numberAt letters last z p) (b .kept-at i (omega (arith, k .within .transistors)))
-        ∙ ⊎-elim
-        (λ (lt : i < min (at net 2314) (at net 1)).
-        q .kept-is i p sa lt hp (λ j hj. ha j hj ∙ sym (value-third j p hj hp))
-        ∙ ap bit (group-kept c (laid-legal net k) n sa (lookedAt c letters third marks p) (looked p e) i (omega (arith, transistors-length net)) of))
-        (λ (le : min (at net 2314) (at net 1) ≤ i).
-        q .open-is i p sa le hi hp (λ j hj. ha j hj ∙ sym (value-third j p hj hp))
-        ∙ ap (λ (z : Bool). bit (not z && conducts sa (transistorAt c i))) (ne-eqb (getD marks (groupOf c (transistorAt c i)) 0) 0 (mark-some i p (looked p e i (omega (arith, transistors-length net)) of)))
-        ∙ ap bit (sym (kept-open c (laid-legal net k) sa i (omega (arith, transistors-length net)) (k .loops i (omega (arith, le, hi)) hi))))
-        (lt-or-ge i (min (at net 2314) (at net 1)))
+      -- where it is one, its group is active
+      seed-active : (p : ℕ) → numberAt letters last (getD roots (seedsPlace + n) 0) p ≡ 1 → getD active (labelAt (groups c) n) 0 ≡ 1
+      seed-active p e =
+          g .marked n lt inner
+          (λ z. omega (arith, e, ap (λ (x : ℕ). numberAt letters last x p) (seed-root ∙ z) ∙ number-zeroth last p (open-few (q .opened)) (open-sound (q .opened))))
 
   -- a transistor that is kept is looked at, and so is its whole group: the rule keeps it
   module _ (i p : ℕ) (sa : State) (hp : p < patterns letters) (ha : Shows letters t after (at net 0) p sa) (hi : i < at net 1) where
@@ -172,7 +165,7 @@ module _ (net : List ℕ) (k : Laid (netCircuit net) net) {letters : ℕ} (t : T
     u = transistorAt c i
 
     abbrev seen : ℕ → Bool
-    seen = lookedAt c letters third marks p
+    seen = lookedAt c letters third active p
 
     here : i < length (c .transistors)
     here = omega (arith, transistors-length net)
@@ -183,8 +176,8 @@ module _ (net : List ℕ) (k : Laid (netCircuit net) net) {letters : ℕ} (t : T
     -- past the last that closes a loop it conducts
     open-only : numberAt letters last (getD roots (26 + i) 0) p ≡ 1 → min (at net 2314) (at net 1) ≤ i → isKept c sa i ≡ true
     open-only e le =
-        let some : isOpen c sa marks i ≡ true = bit-some (isOpen c sa marks i) (λ z. omega (arith, sym e ∙ root-is ∙ q .open-is i p sa le hi hp (λ j hj. ha j hj ∙ sym (value-third j p hj hp)) ∙ z)) in
-        kept-open c (laid-legal net k) sa i here (k .loops i (omega (arith, le, hi)) hi) ∙ and-right (not (eqb (getD marks (groupOf c u) 0) 0)) (conducts sa u) some
+        let some : isOpen c sa active i ≡ true = bit-some (isOpen c sa active i) (λ z. omega (arith, sym e ∙ root-is ∙ q .open-is i p sa le hi hp (λ j hj. ha j hj ∙ sym (value-third j p hj hp)) ∙ z)) in
+        kept-open c (laid-legal net k) sa i here (k .loops i (omega (arith, le, hi)) hi) ∙ and-right (not (eqb (getD active (groupOf c u) 0) 0)) (conducts sa u) some
 
     module _ (e : numberAt letters last (getD roots (26 + i) 0) p ≡ 1) (before' : i < min (at net 2314) (at net 1)) where
       is-held : isHeld c sa seen i ≡ true
@@ -202,12 +195,10 @@ module _ (net : List ℕ) (k : Laid (netCircuit net) net) {letters : ℕ} (t : T
           let lt : u .first < 2 + at net 0 = omega (arith, laid-legal net k .transistor i here .first-is, nodes-length net) in
           let of : ofGroup c (u .first) u ≡ true = or-left (inGroup c (u .first) (u .first)) _ (and-both (isInner c (u .first)) (joined (groups c) (u .first) (u .first)) inner (joined-refl (groups c) (u .first))) in
           let same : groupOf c u ≡ labelAt (groups c) (u .first) = rw inner in
-          let mark : numberAt letters last (getD roots (touchedPlace + u .first) 0) p ≡ 1 =
-          ap (λ (z : ℕ). numberAt letters last z p) (touched-root (u .first) lt inner)
-          ∙ mark-last (g (u .first) lt inner) p (small (u .first) lt inner)
-          ∙ sym (ap (λ (z : ℕ). numberAt letters third (getD marks z 0) p) same)
-          ∙ eqb-true _ 1 (and-right (conducts sa u) (seen i) is-on) in
-          bit-some (isKept c sa i) (λ z. omega (arith, sym e ∙ kept-rule (u .first) lt inner i p sa hp ha mark hi of ∙ z))
+          let mark : getD active (labelAt (groups c) (u .first)) 0 ≡ 1 =
+          looked-active (labelAt (groups c) (u .first)) p (small (u .first) lt inner)
+          (sym (ap (λ (z : ℕ). numberAt letters third (getD active z 0) p) same) ∙ eqb-true _ 1 (and-right (conducts sa u) (seen i) is-on)) in
+          bit-some (isKept c sa i) (λ z. omega (arith, sym e ∙ group-rule (u .first) i p sa hp ha mark hi of ∙ z))
 
       looped-only : isKept c sa i ≡ true
       looped-only = ⊎-elim kept-between kept-driven (bool-cases (betweenInner c u))
@@ -217,7 +208,7 @@ module _ (net : List ℕ) (k : Laid (netCircuit net) net) {letters : ℕ} (t : T
 
   -- every root is a used entry
   within : (j : ℕ) → j < allRootsLength → getD roots j 0 < used4
-  within j hj = parts (lt-or-ge j 26) (lt-or-ge j touchedPlace) (lt-or-ge j allPendingPlace)
+  within j hj = parts (lt-or-ge j 26) (lt-or-ge j seedsPlace) (lt-or-ge j pendingPlace)
     where
       zero-used : 0 < used4
       zero-used = omega (arith, open-three (q .opened))
@@ -242,40 +233,35 @@ module _ (net : List ℕ) (k : Laid (netCircuit net) net) {letters : ℕ} (t : T
           (λ (h : 2 + at net 0 ≤ j). blank j (a .rest-at j (λ _. h) (λ x y. absurd (omega arith)) (λ x. absurd (omega arith))))
           (lt-or-ge j (2 + at net 0)))
 
-      kept-part : 26 ≤ j → j < touchedPlace → getD roots j 0 < used4
+      kept-part : 26 ≤ j → j < seedsPlace → getD roots j 0 < used4
       kept-part le lt =
           let here : 26 + (j - 26) ≡ j = omega arith in
           subst (λ (z : ℕ). getD roots z 0 < used4) here (subst (λ (z : ℕ). z < used4) (sym (b .kept-at (j - 26) (omega arith))) (q .kept-used (j - 26) (omega arith)))
 
-      touched-part : touchedPlace ≤ j → j < allPendingPlace → getD roots j 0 < used4
-      touched-part le lt =
+      seeds-part : seedsPlace ≤ j → j < pendingPlace → getD roots j 0 < used4
+      seeds-part le lt =
           subst (λ (z : ℕ). z < used4) (sym (b .above-at j (omega arith)))
           (⊎-elim
-          (λ (h : j < touchedPlace + (2 + at net 0)).
-          let here : touchedPlace + (j - touchedPlace) ≡ j = omega arith in
-          subst (λ (z : ℕ). getD nodes z 0 < used4) here
-          (subst (λ (z : ℕ). z < used4) (sym (a .touched-at (j - touchedPlace) (omega arith)))
-          (⊎-elim
-          (λ (e : isInner c (j - touchedPlace) ≡ true). subst (λ (z : Bool). cond z (getD marks (labelAt (groups c) (j - touchedPlace)) 0) 0 < used4) (sym e) (on3 (filled-used m (labelAt (groups c) (j - touchedPlace)) (small (j - touchedPlace) (omega arith) e))))
-          (λ (e : isInner c (j - touchedPlace) ≡ false). subst (λ (z : Bool). cond z (getD marks (labelAt (groups c) (j - touchedPlace)) 0) 0 < used4) (sym e) zero-used)
-          (bool-cases (isInner c (j - touchedPlace))))))
-          (λ (h : touchedPlace + (2 + at net 0) ≤ j). blank j (a .rest-at j (λ x. absurd (omega arith)) (λ x y. h) (λ x. absurd (omega arith))))
-          (lt-or-ge j (touchedPlace + (2 + at net 0))))
+          (λ (h : j < seedsPlace + (2 + at net 0)).
+          let here : seedsPlace + (j - seedsPlace) ≡ j = omega arith in
+          subst (λ (z : ℕ). getD nodes z 0 < used4) here (subst (λ (z : ℕ). z < used4) (sym (a .seed-at (j - seedsPlace) (omega arith))) (on3 (filled-used m (j - seedsPlace) (omega arith)))))
+          (λ (h : seedsPlace + (2 + at net 0) ≤ j). blank j (a .rest-at j (λ x. absurd (omega arith)) (λ x y. h) (λ x. absurd (omega arith))))
+          (lt-or-ge j (seedsPlace + (2 + at net 0))))
 
-      pending-part : allPendingPlace ≤ j → getD roots j 0 < used4
+      pending-part : pendingPlace ≤ j → getD roots j 0 < used4
       pending-part le =
           subst (λ (z : ℕ). z < used4) (sym (b .above-at j (omega arith)))
           (⊎-elim
-          (λ (h : j < allPendingPlace + (2 + at net 0)).
-          let here : allPendingPlace + (j - allPendingPlace) ≡ j = omega arith in
-          subst (λ (z : ℕ). getD nodes z 0 < used4) here (subst (λ (z : ℕ). z < used4) (sym (a .pending-at (j - allPendingPlace) (omega arith))) (on2 (filled-used w (j - allPendingPlace) (omega arith)))))
-          (λ (h : allPendingPlace + (2 + at net 0) ≤ j). blank j (a .rest-at j (λ x. absurd (omega arith)) (λ x y. absurd (omega arith)) (λ x. h)))
-          (lt-or-ge j (allPendingPlace + (2 + at net 0))))
+          (λ (h : j < pendingPlace + (2 + at net 0)).
+          let here : pendingPlace + (j - pendingPlace) ≡ j = omega arith in
+          subst (λ (z : ℕ). getD nodes z 0 < used4) here (subst (λ (z : ℕ). z < used4) (sym (a .pending-at (j - pendingPlace) (omega arith))) (on2 (filled-used w (j - pendingPlace) (omega arith)))))
+          (λ (h : pendingPlace + (2 + at net 0) ≤ j). blank j (a .rest-at j (λ x. absurd (omega arith)) (λ x y. absurd (omega arith)) (λ x. h)))
+          (lt-or-ge j (pendingPlace + (2 + at net 0))))
 
-      parts : (j < 26) ⊎ (26 ≤ j) → (j < touchedPlace) ⊎ (touchedPlace ≤ j) → (j < allPendingPlace) ⊎ (allPendingPlace ≤ j) → getD roots j 0 < used4
+      parts : (j < 26) ⊎ (26 ≤ j) → (j < seedsPlace) ⊎ (seedsPlace ≤ j) → (j < pendingPlace) ⊎ (pendingPlace ≤ j) → getD roots j 0 < used4
       parts (inl h) y z = value-part h
       parts (inr h) (inl y) z = kept-part h y
-      parts (inr h) (inr y) (inl z) = touched-part y z
+      parts (inr h) (inr y) (inl z) = seeds-part y z
       parts (inr h) (inr y) (inr z) = pending-part z
 
   pub assembled : Roots net letters t before after pending all only l4 w4 h4 ix4 used4 roots
@@ -283,8 +269,8 @@ module _ (net : List ℕ) (k : Laid (netCircuit net) net) {letters : ℕ} (t : T
     opened = q .opened;
     within = within;
     value-is = λ n p lt hp. ap (λ (z : ℕ). numberAt letters last z p) (b .below-at n (omega arith) ∙ a .value-at n lt) ∙ value-last n p lt hp;
-    pending-is = λ n p lt hp. ap (λ (z : ℕ). numberAt letters last z p) (b .above-at (allPendingPlace + n) (omega arith) ∙ a .pending-at n lt) ∙ pending-last n p lt hp;
-    touched-is = λ n p sb sa lt inner so hp hb ha. touched-is n lt inner so p sb sa hp hb ha;
-    kept-is = λ n i p sa lt inner so hp ha e hi of. kept-rule n lt inner i p sa hp ha e hi of;
+    pending-is = λ n p lt hp. ap (λ (z : ℕ). numberAt letters last z p) (b .above-at (pendingPlace + n) (omega arith) ∙ a .pending-at n lt) ∙ pending-last n p lt hp;
+    seed-is = λ n p sb sa lt inner so hp hb ha. seed-is n lt inner so p sb sa hp hb ha;
+    kept-is = λ n i p sa lt inner so hp ha e hi of. group-rule n i p sa hp ha (seed-active n lt inner p e) hi of;
     kept-only = λ i p sa hp ha hi e. kept-only i p sa hp ha hi e;
   }

@@ -29,7 +29,7 @@ use Rattle.working.proofs.Grow.{open-few, open-sound, open-long, open-three, me
 use Rattle.working.proofs.Fill.{up-other, number-kept, means-own, means-zero, means-used, used-kept}
 use Rattle.working.proofs.Linking.{linked-bits, linked-none}
 use Rattle.rules.specs.State.{State, valueAt, isInner}
-use Rattle.rules.specs.Group.{betweenInner}
+use Rattle.rules.specs.Label.{betweenInner}
 use Rattle.rules.specs.Matrix.{transistorAt, linked, holds, isHeld, matrixAt}
 use Rattle.net.specs.Net.{at, netTransistor, netCircuit}
 use Rattle.net.specs.Laid.{Laid}
@@ -47,8 +47,8 @@ conducts-bit (suc zero) (suc (suc g)) hp hg = absurd (omega arith)
 conducts-bit (suc (suc p)) g hp hg = absurd (omega arith)
 
 -- kept, in bits
-kept-choice : (between touched conducting joined : Bool)
-    → cond between (cond joined 0 (cond touched (bit conducting) 0)) (cond touched (bit conducting) 0) ≡ bit ((conducting && touched) && not (between && joined))
+kept-choice : (between active conducting joined : Bool)
+    → cond between (cond joined 0 (cond active (bit conducting) 0)) (cond active (bit conducting) 0) ≡ bit ((conducting && active) && not (between && joined))
 kept-choice true true true true = refl
 kept-choice true true true false = refl
 kept-choice true true false true = refl
@@ -62,9 +62,9 @@ kept-choice false true false joined = refl
 kept-choice false false true joined = refl
 kept-choice false false false joined = refl
 
--- a transistor whose group is nowhere touched is nowhere kept
-kept-nowhere : (polarity : ℕ) (between : Bool) (touched gate joined : ℕ) → touched ≡ 0 → keptNumber polarity between touched gate joined ≡ 0
-kept-nowhere polarity between touched gate joined e = rw e (by between (eqb joined 1))
+-- a transistor whose group is not active is nowhere kept
+kept-nowhere : (polarity : ℕ) (between : Bool) (active gate joined : ℕ) → active ≡ 0 → keptNumber polarity between active gate joined ≡ 0
+kept-nowhere polarity between active gate joined e = rw e (by between (eqb joined 1))
   where
     by : (a b : Bool) → _≡_ {A = ℕ} (cond a (cond b 0 0) 0) 0
     by true true = refl
@@ -93,25 +93,25 @@ module _ {letters : ℕ} {l w h ix : List ℕ} {used : ℕ} (o : Open letters l 
   keep-nowhere polarity between e v j z =
       grown-same (grown-there o (means-zero o)) (λ p _. sym (kept-nowhere polarity between (n e p) (n v p) (n j p) (zero-is z p)))
 
-  -- touched and conducting
+  -- of an active group and conducting
   module _ (polarity e v j : ℕ) (between : Bool) (he : e < used) {l1 w1 h1 ix1 l2 w2 h2 ix2 : List ℕ} {p q : Put}
       (g : Grown letters (held l w h used) (λ x. conductsNumber polarity (numberAt letters (held l w h used) v x)) l1 w1 h1 ix1 p) (room : stopped (p .stop) ≡ false)
       (s : Grown letters (held l1 w1 h1 (p .used)) (λ x. cond (eqb (numberAt letters (held l1 w1 h1 (p .used)) e x) 1) (numberAt letters (held l1 w1 h1 (p .used)) (p .entry) x) 0) l2 w2 h2 ix2 q) where
-    touched-grown : Grown letters (held l w h used) (λ x. cond (eqb (numberAt letters (held l w h used) e x) 1) (conductsNumber polarity (numberAt letters (held l w h used) v x)) 0) l2 w2 h2 ix2 q
-    touched-grown = grown-then g room (grown-same s (λ x hx. rw (grown-number o g room e x he, g .means room .number x hx)))
+    active-grown : Grown letters (held l w h used) (λ x. cond (eqb (numberAt letters (held l w h used) e x) 1) (conductsNumber polarity (numberAt letters (held l w h used) v x)) 0) l2 w2 h2 ix2 q
+    active-grown = grown-then g room (grown-same s (λ x hx. rw (grown-number o g room e x he, g .means room .number x hx)))
 
     -- with a driven end that is all
     pub keep-driven : between ≡ false
         → Grown letters (held l w h used) (λ x. keptNumber polarity between (numberAt letters (held l w h used) e x) (numberAt letters (held l w h used) v x) (numberAt letters (held l w h used) j x)) l2 w2 h2 ix2 q
-    keep-driven b = grown-same touched-grown (λ x hx. sym (ap (λ (a : Bool). cond a (cond (eqb (n j x) 1) 0 (cond (eqb (n e x) 1) (conductsNumber polarity (n v x)) 0)) (cond (eqb (n e x) 1) (conductsNumber polarity (n v x)) 0)) b))
+    keep-driven b = grown-same active-grown (λ x hx. sym (ap (λ (a : Bool). cond a (cond (eqb (n j x) 1) 0 (cond (eqb (n e x) 1) (conductsNumber polarity (n v x)) 0)) (cond (eqb (n e x) 1) (conductsNumber polarity (n v x)) 0)) b))
 
     -- between inner nodes, not where they are joined
     pub keep-between : {l3 w3 h3 ix3 : List ℕ} {r : Put} → between ≡ true → j < used → stopped (q .stop) ≡ false
         → Grown letters (held l2 w2 h2 (q .used)) (λ x. cond (eqb (numberAt letters (held l2 w2 h2 (q .used)) j x) 1) 0 (numberAt letters (held l2 w2 h2 (q .used)) (q .entry) x)) l3 w3 h3 ix3 r
         → Grown letters (held l w h used) (λ x. keptNumber polarity between (numberAt letters (held l w h used) e x) (numberAt letters (held l w h used) v x) (numberAt letters (held l w h used) j x)) l3 w3 h3 ix3 r
     keep-between b hj rest u =
-        grown-then touched-grown rest
-        (grown-same u (λ x hx. rw (grown-number o touched-grown rest j x hj, touched-grown .means rest .number x hx)
+        grown-then active-grown rest
+        (grown-same u (λ x hx. rw (grown-number o active-grown rest j x hj, active-grown .means rest .number x hx)
         (sym (ap (λ (a : Bool). cond a (cond (eqb (n j x) 1) 0 (cond (eqb (n e x) 1) (conductsNumber polarity (n v x)) 0)) (cond (eqb (n e x) 1) (conductsNumber polarity (n v x)) 0)) b))))
 
   -- a matrix that stays
@@ -149,12 +149,12 @@ link-between {letters} {t} between kept a b joined e m = record {
 }
 
 -- kept by numbers is kept by tests
-held-bit : (polarity touched gate joined : ℕ) (between at : Bool) → polarity ≤ 1 → gate ≤ 1 → (between ≡ true → joined ≡ bit at)
-    → keptNumber polarity between touched gate joined ≡ bit ((eqb gate (1 - polarity) && eqb touched 1) && not (between && at))
-held-bit polarity touched gate joined true at hp hg hj =
-    rw (conducts-bit polarity gate hp hg, hj refl, cond-one at) (kept-choice true (eqb touched 1) (eqb gate (1 - polarity)) at)
-held-bit polarity touched gate joined false at hp hg hj =
-    rw (conducts-bit polarity gate hp hg) (kept-choice false (eqb touched 1) (eqb gate (1 - polarity)) at)
+held-bit : (polarity active gate joined : ℕ) (between at : Bool) → polarity ≤ 1 → gate ≤ 1 → (between ≡ true → joined ≡ bit at)
+    → keptNumber polarity between active gate joined ≡ bit ((eqb gate (1 - polarity) && eqb active 1) && not (between && at))
+held-bit polarity active gate joined true at hp hg hj =
+    rw (conducts-bit polarity gate hp hg, hj refl, cond-one at) (kept-choice true (eqb active 1) (eqb gate (1 - polarity)) at)
+held-bit polarity active gate joined false at hp hg hj =
+    rw (conducts-bit polarity gate hp hg) (kept-choice false (eqb active 1) (eqb gate (1 - polarity)) at)
 
 -- the link by numbers is the link by tests
 link-bit : (between k xy xa by xb ay : Bool) → cond between (linkedNumber (bit k) (bit xy) (bit xa) (bit by) (bit xb) (bit ay)) (bit xy) ≡ bit (xy || ((k && between) && ((xa && by) || (xb && ay))))
@@ -174,12 +174,12 @@ unfolding matrixAt
 matrix-suc c z looked i a b = rw (add-one i)
 
 -- one transistor: its kept function, and the matrix after it
-module _ {c : Circuit} {nodes letters : ℕ} {l0 w0 h0 ix0 : List ℕ} {used0 : ℕ} {values touched : List ℕ} {i : ℕ} {l w h ix : List ℕ} {used : ℕ} {out : List ℕ} {joined : List (List ℕ)}
-    (o : Open letters l0 w0 h0 ix0 used0) (hv : AllUsed 26 values used0) (ht : AllUsed 26 touched used0) (bits : Bits letters (held l0 w0 h0 used0) values (2 + nodes)) (few : nodes ≤ 24)
-    (s : Keeping c nodes letters (held l0 w0 h0 used0) values touched i l w h ix used out joined)
+module _ {c : Circuit} {nodes letters : ℕ} {l0 w0 h0 ix0 : List ℕ} {used0 : ℕ} {values active : List ℕ} {i : ℕ} {l w h ix : List ℕ} {used : ℕ} {out : List ℕ} {joined : List (List ℕ)}
+    (o : Open letters l0 w0 h0 ix0 used0) (hv : AllUsed 26 values used0) (ht : AllUsed 26 active used0) (bits : Bits letters (held l0 w0 h0 used0) values (2 + nodes)) (few : nodes ≤ 24)
+    (s : Keeping c nodes letters (held l0 w0 h0 used0) values active i l w h ix used out joined)
     (t : Transistor) (te : transistorAt c i ≡ t) (legal : Legal c nodes t) (small : groupOf c t < 26)
     {l1 w1 h1 ix1 : List ℕ} {p : Put}
-    (g : Grown letters (held l w h used) (λ x. keptNumber (t .polarity) (betweenInner c t) (numberAt letters (held l w h used) (getD touched (groupOf c t) 0) x) (numberAt letters (held l w h used) (getD values (t .gate) 0) x) (numberAt letters (held l w h used) (cell joined (t .first - 2) (t .second - 2)) x)) l1 w1 h1 ix1 p) (room : stopped (p .stop) ≡ false) where
+    (g : Grown letters (held l w h used) (λ x. keptNumber (t .polarity) (betweenInner c t) (numberAt letters (held l w h used) (getD active (groupOf c t) 0) x) (numberAt letters (held l w h used) (getD values (t .gate) 0) x) (numberAt letters (held l w h used) (cell joined (t .first - 2) (t .second - 2)) x)) l1 w1 h1 ix1 p) (room : stopped (p .stop) ≡ false) where
   abbrev t0 : Table
   t0 = held l0 w0 h0 used0
 
@@ -191,13 +191,13 @@ module _ {c : Circuit} {nodes letters : ℕ} {l0 w0 h0 ix0 : List ℕ} {used0 : 
 
   module _ (x : ℕ) (z : State) (hx : x < patterns letters) (shows : Shows letters t0 values nodes x z) where
     abbrev j : ℕ → ℕ → Bool
-    j a b = matrixAt c z (lookedAt c letters t0 touched x) i a b
+    j a b = matrixAt c z (lookedAt c letters t0 active x) i a b
 
     gate-number : numberAt letters now (getD values (t .gate) 0) x ≡ valueAt z (t .gate)
     gate-number = number-kept o (s .extends) (getD values (t .gate) 0) x (hv (t .gate) (omega (arith, legal .gate-is))) ∙ sym (shows (t .gate) (legal .gate-is))
 
-    touched-number : numberAt letters now (getD touched (groupOf c t) 0) x ≡ numberAt letters t0 (getD touched (groupOf c t) 0) x
-    touched-number = number-kept o (s .extends) (getD touched (groupOf c t) 0) x (ht (groupOf c t) small)
+    active-number : numberAt letters now (getD active (groupOf c t) 0) x ≡ numberAt letters t0 (getD active (groupOf c t) 0) x
+    active-number = number-kept o (s .extends) (getD active (groupOf c t) 0) x (ht (groupOf c t) small)
 
     cell-number : (a b : ℕ) → a < 24 → b < 24 → numberAt letters now (cell joined a b) x ≡ bit (j (a + 2) (b + 2))
     cell-number a b ha hb = s .joined-is a b x z ha hb hx shows
@@ -208,15 +208,15 @@ module _ {c : Circuit} {nodes letters : ℕ} {l0 w0 h0 ix0 : List ℕ} {used0 : 
         let b : t .second - 2 + 2 ≡ t .second = omega (arith, legal .second-least e .0) in
         cell-number (t .first - 2) (t .second - 2) (omega (arith, legal .first-least e .1)) (omega (arith, legal .second-least e .1)) ∙ rw (a, b)
 
-    held-is : isHeld c z (lookedAt c letters t0 touched x) i ≡ holds c z (eqb (numberAt letters t0 (getD touched (groupOf c t) 0) x) 1) (matrixAt c z (lookedAt c letters t0 touched x) i) t
+    held-is : isHeld c z (lookedAt c letters t0 active x) i ≡ holds c z (eqb (numberAt letters t0 (getD active (groupOf c t) 0) x) 1) (matrixAt c z (lookedAt c letters t0 active x) i) t
     held-is = rw te
 
     -- the new entry is the kept test
-    kept-number : numberAt letters then (p .entry) x ≡ bit (isHeld c z (lookedAt c letters t0 touched x) i)
+    kept-number : numberAt letters then (p .entry) x ≡ bit (isHeld c z (lookedAt c letters t0 active x) i)
     kept-number =
         g .means room .number x hx
-        ∙ rw (gate-number, touched-number)
-        (held-bit (t .polarity) (numberAt letters t0 (getD touched (groupOf c t) 0) x) (valueAt z (t .gate)) (numberAt letters now (cell joined (t .first - 2) (t .second - 2)) x) (betweenInner c t) (j (t .first) (t .second)) (legal .polarity-is)
+        ∙ rw (gate-number, active-number)
+        (held-bit (t .polarity) (numberAt letters t0 (getD active (groupOf c t) 0) x) (valueAt z (t .gate)) (numberAt letters now (cell joined (t .first - 2) (t .second - 2)) x) (betweenInner c t) (j (t .first) (t .second)) (legal .polarity-is)
         (subst (λ (v : ℕ). v ≤ 1) (sym (shows (t .gate) (legal .gate-is))) (bits (t .gate) x (legal .gate-is) hx)) ends-number)
         ∙ ap bit (sym held-is)
 
@@ -234,7 +234,7 @@ module _ {c : Circuit} {nodes letters : ℕ} {l0 w0 h0 ix0 : List ℕ} {used0 : 
 
     module _ (x : ℕ) (z : State) (hx : x < patterns letters) (shows : Shows letters t0 values nodes x z) where
       abbrev look : ℕ → Bool
-      look = lookedAt c letters t0 touched x
+      look = lookedAt c letters t0 active x
 
       then-cell : (a b : ℕ) → a < 24 → b < 24 → numberAt letters then (cell joined a b) x ≡ bit (matrixAt c z look i (a + 2) (b + 2))
       then-cell a b ha hb = grown-number (s .opened) g room (cell joined a b) x (s .joined-used a b ha hb) ∙ s .joined-is a b x z ha hb hx shows
@@ -261,7 +261,7 @@ module _ {c : Circuit} {nodes letters : ℕ} {l0 w0 h0 ix0 : List ℕ} {used0 : 
           ∙ ap bit (sym (matrix-suc c z look i (a + 2) (b + 2) ∙ ap (λ (u : Transistor). linked (isHeld c z look i && betweenInner c u) (u .first) (u .second) (matrixAt c z look i) (a + 2) (b + 2)) te))
 
     -- one transistor more
-    pub keeping-next : length out ≡ 64 → i < 64 → Keeping c nodes letters (held l0 w0 h0 used0) values touched (i + 1) l2 w2 h2 ix2 used2 (set out i (p .entry)) next
+    pub keeping-next : length out ≡ 64 → i < 64 → Keeping c nodes letters (held l0 w0 h0 used0) values active (i + 1) l2 w2 h2 ix2 used2 (set out i (p .entry)) next
     keeping-next long hi = record {
       opened = m .opened;
       extends = extends-trans (extends-trans (s .extends) (g .extends room)) (m .extends);
@@ -289,10 +289,10 @@ eqb-shift x y =
     (eq-or-ne x y)
 
 -- before the first transistor
-pub keeping-first : {c : Circuit} {nodes letters : ℕ} {l w h ix : List ℕ} {used : ℕ} {values touched : List ℕ} {out : List ℕ} {joined : List (List ℕ)} → Open letters l w h ix used
-    → ((i : ℕ) → i < 64 → getD out i 0 ≡ 0) → ((x y : ℕ) → x < 24 → y < 24 → cell joined x y ≡ bit (eqb x y)) → Keeping c nodes letters (held l w h used) values touched 0 l w h ix used out joined
+pub keeping-first : {c : Circuit} {nodes letters : ℕ} {l w h ix : List ℕ} {used : ℕ} {values active : List ℕ} {out : List ℕ} {joined : List (List ℕ)} → Open letters l w h ix used
+    → ((i : ℕ) → i < 64 → getD out i 0 ≡ 0) → ((x y : ℕ) → x < 24 → y < 24 → cell joined x y ≡ bit (eqb x y)) → Keeping c nodes letters (held l w h used) values active 0 l w h ix used out joined
 unfolding matrixAt
-keeping-first {c} {nodes} {letters} {l} {w} {h} {ix} {used} {values} {touched} {out} {joined} o zeros first = record {
+keeping-first {c} {nodes} {letters} {l} {w} {h} {ix} {used} {values} {active} {out} {joined} o zeros first = record {
   opened = o;
   extends = extends-refl _;
   kept-used = λ i hi. omega (arith, zeros i hi, open-three o);
@@ -306,22 +306,22 @@ keeping-first {c} {nodes} {letters} {l} {w} {h} {ix} {used} {values} {touched} {
     number-bit p false = number-zeroth (held l w h used) p (open-few o) (open-sound o)
 
 -- after the last
-pub keeping-done : {c : Circuit} {nodes letters : ℕ} {t : Table} {values touched : List ℕ} {i count : ℕ} {l w h ix : List ℕ} {used : ℕ} {out : List ℕ} {joined : List (List ℕ)} → Keeping c nodes letters t values touched i l w h ix used out joined → count ≤ i
-    → KeptLooped c nodes letters t values touched count l w h ix used out
+pub keeping-done : {c : Circuit} {nodes letters : ℕ} {t : Table} {values active : List ℕ} {i count : ℕ} {l w h ix : List ℕ} {used : ℕ} {out : List ℕ} {joined : List (List ℕ)} → Keeping c nodes letters t values active i l w h ix used out joined → count ≤ i
+    → KeptLooped c nodes letters t values active count l w h ix used out
 keeping-done s le = record { opened = s .opened; extends = s .extends; kept-used = s .kept-used; kept-is = λ i p z hi hp shows. s .kept-is i p z (omega arith) hp shows }
 
 -- the loop over the transistors
-pub record Going (c : Circuit) (nodes letters : ℕ) (t : Table) (values touched : List ℕ) (count : ℕ) (l0 w0 h0 ix0 l w h ix : List ℕ) (used : ℕ) (out : List ℕ) (joined : List (List ℕ)) (i : ℕ) : Type 0 where
+pub record Going (c : Circuit) (nodes letters : ℕ) (t : Table) (values active : List ℕ) (count : ℕ) (l0 w0 h0 ix0 l w h ix : List ℕ) (used : ℕ) (out : List ℕ) (joined : List (List ℕ)) (i : ℕ) : Type 0 where
   pub few : i ≤ count
   pub long : length out ≡ 64
   pub letter-long : length l ≡ length l0
   pub low-long : length w ≡ length w0
   pub high-long : length h ≡ length h0
   pub index-long : length ix ≡ length ix0
-  pub keeping : Keeping c nodes letters t values touched i l w h ix used out joined
+  pub keeping : Keeping c nodes letters t values active i l w h ix used out joined
 
-pub going-first : {c : Circuit} {nodes letters : ℕ} {l w h ix : List ℕ} {used : ℕ} {values touched : List ℕ} {count : ℕ} {out : List ℕ} {joined : List (List ℕ)} → Open letters l w h ix used → length out ≡ 64
-    → ((i : ℕ) → i < 64 → getD out i 0 ≡ 0) → ((x y : ℕ) → x < 24 → y < 24 → cell joined x y ≡ bit (eqb x y)) → Going c nodes letters (held l w h used) values touched count l w h ix l w h ix used out joined 0
+pub going-first : {c : Circuit} {nodes letters : ℕ} {l w h ix : List ℕ} {used : ℕ} {values active : List ℕ} {count : ℕ} {out : List ℕ} {joined : List (List ℕ)} → Open letters l w h ix used → length out ≡ 64
+    → ((i : ℕ) → i < 64 → getD out i 0 ≡ 0) → ((x y : ℕ) → x < 24 → y < 24 → cell joined x y ≡ bit (eqb x y)) → Going c nodes letters (held l w h used) values active count l w h ix l w h ix used out joined 0
 going-first o long zeros first = record {
   few = omega arith;
   long = long;
@@ -357,15 +357,15 @@ module _ (net : List ℕ) (k : Laid (netCircuit net) net) (i : ℕ) (h : i < at 
       by false ea true eb = subst (λ (z : ℕ). z < 26) (laid-by-second net k i h ea eb .0) (laid-by-second net k i h ea eb .1)
       by false ea false eb = subst (λ (z : ℕ). z < 26) (laid-no-group net k i h ea eb) (omega arith)
 
-pub going-next : {c : Circuit} {nodes letters : ℕ} {l0 w0 h0 ix0 : List ℕ} {used0 : ℕ} {values touched : List ℕ} {count i : ℕ} {l w h ix : List ℕ} {used : ℕ} {out : List ℕ} {joined : List (List ℕ)}
-    (o : Open letters l0 w0 h0 ix0 used0) (hv : AllUsed 26 values used0) (ht : AllUsed 26 touched used0) (bits : Bits letters (held l0 w0 h0 used0) values (2 + nodes)) (few : nodes ≤ 24)
-    (s : Going c nodes letters (held l0 w0 h0 used0) values touched count l0 w0 h0 ix0 l w h ix used out joined i)
+pub going-next : {c : Circuit} {nodes letters : ℕ} {l0 w0 h0 ix0 : List ℕ} {used0 : ℕ} {values active : List ℕ} {count i : ℕ} {l w h ix : List ℕ} {used : ℕ} {out : List ℕ} {joined : List (List ℕ)}
+    (o : Open letters l0 w0 h0 ix0 used0) (hv : AllUsed 26 values used0) (ht : AllUsed 26 active used0) (bits : Bits letters (held l0 w0 h0 used0) values (2 + nodes)) (few : nodes ≤ 24)
+    (s : Going c nodes letters (held l0 w0 h0 used0) values active count l0 w0 h0 ix0 l w h ix used out joined i)
     (t : Transistor) (te : transistorAt c i ≡ t) (legal : Legal c nodes t) (small : groupOf c t < 26) {l1 w1 h1 ix1 : List ℕ} {p : Put}
-    (g : Grown letters (held l w h used) (λ x. keptNumber (t .polarity) (betweenInner c t) (numberAt letters (held l w h used) (getD touched (groupOf c t) 0) x) (numberAt letters (held l w h used) (getD values (t .gate) 0) x) (numberAt letters (held l w h used) (cell joined (t .first - 2) (t .second - 2)) x)) l1 w1 h1 ix1 p) (room : stopped (p .stop) ≡ false)
+    (g : Grown letters (held l w h used) (λ x. keptNumber (t .polarity) (betweenInner c t) (numberAt letters (held l w h used) (getD active (groupOf c t) 0) x) (numberAt letters (held l w h used) (getD values (t .gate) 0) x) (numberAt letters (held l w h used) (cell joined (t .first - 2) (t .second - 2)) x)) l1 w1 h1 ix1 p) (room : stopped (p .stop) ≡ false)
     {l2 w2 h2 ix2 : List ℕ} {used2 : ℕ} {next : List (List ℕ)}
     (m : Matrixed letters (held l1 w1 h1 (p .used)) (λ a b x. cond (betweenInner c t) (linkedNumber (numberAt letters (held l1 w1 h1 (p .used)) (p .entry) x) (numberAt letters (held l1 w1 h1 (p .used)) (cell joined a b) x) (numberAt letters (held l1 w1 h1 (p .used)) (cell joined a (t .first - 2)) x) (numberAt letters (held l1 w1 h1 (p .used)) (cell joined (t .second - 2) b) x) (numberAt letters (held l1 w1 h1 (p .used)) (cell joined a (t .second - 2)) x) (numberAt letters (held l1 w1 h1 (p .used)) (cell joined (t .first - 2) b) x)) (numberAt letters (held l1 w1 h1 (p .used)) (cell joined a b) x)) l2 w2 h2 ix2 used2 next)
     → i < count → i < 64 → length l2 ≡ length l → length w2 ≡ length w → length h2 ≡ length h → length ix2 ≡ length ix
-    → Going c nodes letters (held l0 w0 h0 used0) values touched count l0 w0 h0 ix0 l2 w2 h2 ix2 used2 (set out i (p .entry)) next (i + 1)
+    → Going c nodes letters (held l0 w0 h0 used0) values active count l0 w0 h0 ix0 l2 w2 h2 ix2 used2 (set out i (p .entry)) next (i + 1)
 going-next {i = i} {out = out} o hv ht bits few s t te legal small {p = p} g room m lt hi a b c d = record {
   few = omega arith;
   long = length-set out i (p .entry) ∙ s .long;

@@ -1,5 +1,6 @@
 pub mod Reading
-pub mod Touching
+pub mod Arms
+pub mod Seeding
 pub mod Keeping
 pub mod Opening
 pub mod Placing

@@ -32,7 +32,7 @@ use Rattle.prepare.specs.Steps.{Shows, Bits, groupOf, conductsNumber, op
 use Rattle.prepare.proofs.Keeping.{conducts-bit, Legal}
 
 module _ {letters : ℕ} {l w h ix : List ℕ} {used : ℕ} (o : Open letters l w h ix used) (polarity e v : ℕ) where
-  -- nothing touches its group
+  -- its group is not active
   pub open-nowhere : e ≡ 0 → Grown letters (held l w h used) (λ p. openNumber polarity e (numberAt letters (held l w h used) v p)) l w h ix (record { stop = NotStopped; entry = 0; used = used })
   open-nowhere z = grown-same (grown-there o (means-zero o)) (λ p _. sym (ap (λ (b : Bool). cond b 0 (conductsNumber polarity (numberAt letters (held l w h used) v p))) (eq-eqb e 0 z)))
 
@@ -47,17 +47,17 @@ open-bit true b = refl
 open-bit false b = refl
 
 -- the loop over the transistors
-pub record Resting (c : Circuit) (nodes letters : ℕ) (t : Table) (values touched before : List ℕ) (from : ℕ) (l0 w0 h0 ix0 l w h ix : List ℕ) (used : ℕ) (out : List ℕ) (i : ℕ) : Type 0 where
+pub record Resting (c : Circuit) (nodes letters : ℕ) (t : Table) (values active before : List ℕ) (from : ℕ) (l0 w0 h0 ix0 l w h ix : List ℕ) (used : ℕ) (out : List ℕ) (i : ℕ) : Type 0 where
   pub least : from ≤ i
   pub long : length out ≡ 64
   pub letter-long : length l ≡ length l0
   pub low-long : length w ≡ length w0
   pub high-long : length h ≡ length h0
   pub index-long : length ix ≡ length ix0
-  pub rest : KeptRest c nodes letters t values touched before from i l w h ix used out
+  pub rest : KeptRest c nodes letters t values active before from i l w h ix used out
 
-pub resting-first : {c : Circuit} {nodes letters : ℕ} {l w h ix : List ℕ} {used : ℕ} {values touched kept : List ℕ} {from : ℕ} → Open letters l w h ix used → length kept ≡ 64 → AllUsed 64 kept used
-    → Resting c nodes letters (held l w h used) values touched kept from l w h ix l w h ix used kept from
+pub resting-first : {c : Circuit} {nodes letters : ℕ} {l w h ix : List ℕ} {used : ℕ} {values active kept : List ℕ} {from : ℕ} → Open letters l w h ix used → length kept ≡ 64 → AllUsed 64 kept used
+    → Resting c nodes letters (held l w h used) values active kept from l w h ix l w h ix used kept from
 resting-first {l = l} {w} {h} {used = used} o long all = record {
   least = omega arith;
   long = long;
@@ -69,27 +69,27 @@ resting-first {l = l} {w} {h} {used = used} o long all = record {
 }
 
 -- one transistor more
-module _ {c : Circuit} {nodes letters : ℕ} {l0 w0 h0 ix0 : List ℕ} {used0 : ℕ} {values touched before : List ℕ} {from i : ℕ} {l w h ix : List ℕ} {used : ℕ} {out : List ℕ}
+module _ {c : Circuit} {nodes letters : ℕ} {l0 w0 h0 ix0 : List ℕ} {used0 : ℕ} {values active before : List ℕ} {from i : ℕ} {l w h ix : List ℕ} {used : ℕ} {out : List ℕ}
     (o : Open letters l0 w0 h0 ix0 used0) (hv : AllUsed 26 values used0) (bits : Bits letters (held l0 w0 h0 used0) values (2 + nodes)) (few : nodes ≤ 24)
-    (s : Resting c nodes letters (held l0 w0 h0 used0) values touched before from l0 w0 h0 ix0 l w h ix used out i)
+    (s : Resting c nodes letters (held l0 w0 h0 used0) values active before from l0 w0 h0 ix0 l w h ix used out i)
     (t : Transistor) (te : transistorAt c i ≡ t) (legal : Legal c nodes t)
     {l1 w1 h1 ix1 : List ℕ} {p : Put}
-    (g : Grown letters (held l w h used) (λ x. openNumber (t .polarity) (getD touched (groupOf c t) 0) (numberAt letters (held l w h used) (getD values (t .gate) 0) x)) l1 w1 h1 ix1 p) (room : stopped (p .stop) ≡ false) where
-  abbrev r : KeptRest c nodes letters (held l0 w0 h0 used0) values touched before from i l w h ix used out
+    (g : Grown letters (held l w h used) (λ x. openNumber (t .polarity) (getD active (groupOf c t) 0) (numberAt letters (held l w h used) (getD values (t .gate) 0) x)) l1 w1 h1 ix1 p) (room : stopped (p .stop) ≡ false) where
+  abbrev r : KeptRest c nodes letters (held l0 w0 h0 used0) values active before from i l w h ix used out
   r = s .rest
 
   abbrev then : Table
   then = held l1 w1 h1 (p .used)
 
-  own-number : (x : ℕ) (z : State) → x < patterns letters → Shows letters (held l0 w0 h0 used0) values nodes x z → numberAt letters then (p .entry) x ≡ bit (isOpen c z touched i)
+  own-number : (x : ℕ) (z : State) → x < patterns letters → Shows letters (held l0 w0 h0 used0) values nodes x z → numberAt letters then (p .entry) x ≡ bit (isOpen c z active i)
   own-number x z hx shows =
       g .means room .number x hx
-      ∙ ap (λ (v : ℕ). openNumber (t .polarity) (getD touched (groupOf c t) 0) v)
+      ∙ ap (λ (v : ℕ). openNumber (t .polarity) (getD active (groupOf c t) 0) v)
       (number-kept o (r .extends) (getD values (t .gate) 0) x (hv (t .gate) (omega (arith, legal .gate-is))) ∙ sym (shows (t .gate) (legal .gate-is)))
-      ∙ ap (λ (v : ℕ). cond (eqb (getD touched (groupOf c t) 0) 0) 0 v)
+      ∙ ap (λ (v : ℕ). cond (eqb (getD active (groupOf c t) 0) 0) 0 v)
       (conducts-bit (t .polarity) (valueAt z (t .gate)) (legal .polarity-is) (subst (λ (v : ℕ). v ≤ 1) (sym (shows (t .gate) (legal .gate-is))) (bits (t .gate) x (legal .gate-is) hx)))
-      ∙ open-bit (eqb (getD touched (groupOf c t) 0) 0) (conducts z t)
-      ∙ ap (λ (u : Transistor). bit (not (eqb (getD touched (groupOf c u) 0) 0) && conducts z u)) (sym te)
+      ∙ open-bit (eqb (getD active (groupOf c t) 0) 0) (conducts z t)
+      ∙ ap (λ (u : Transistor). bit (not (eqb (getD active (groupOf c u) 0) 0) && conducts z u)) (sym te)
 
   module _ (hi : i < 64) where
     at-own : getD (set out i (p .entry)) i 0 ≡ p .entry
@@ -106,7 +106,7 @@ module _ {c : Circuit} {nodes letters : ℕ} {l0 w0 h0 ix0 : List ℕ} {used0 : 
         (eq-or-ne j i)
 
     rest-open : (j x : ℕ) (z : State) → from ≤ j → j < i + 1 → x < patterns letters → Shows letters (held l0 w0 h0 used0) values nodes x z
-        → numberAt letters then (getD (set out i (p .entry)) j 0) x ≡ bit (isOpen c z touched j)
+        → numberAt letters then (getD (set out i (p .entry)) j 0) x ≡ bit (isOpen c z active j)
     rest-open j x z le lt hx shows =
         ⊎-elim
         (λ (q : j ≡ i). rw (q, at-own) (own-number x z hx shows))
@@ -114,7 +114,7 @@ module _ {c : Circuit} {nodes letters : ℕ} {l0 w0 h0 ix0 : List ℕ} {used0 : 
         (eq-or-ne j i)
 
     pub resting-next : length l1 ≡ length l → length w1 ≡ length w → length h1 ≡ length h → length ix1 ≡ length ix
-        → Resting c nodes letters (held l0 w0 h0 used0) values touched before from l0 w0 h0 ix0 l1 w1 h1 ix1 (p .used) (set out i (p .entry)) (i + 1)
+        → Resting c nodes letters (held l0 w0 h0 used0) values active before from l0 w0 h0 ix0 l1 w1 h1 ix1 (p .used) (set out i (p .entry)) (i + 1)
     resting-next a b d e = record {
       least = omega (arith, s .least);
       long = length-set out i (p .entry) ∙ s .long;
@@ -132,8 +132,8 @@ module _ {c : Circuit} {nodes letters : ℕ} {l0 w0 h0 ix0 : List ℕ} {used0 : 
     }
 
 -- after the last
-pub resting-done : {c : Circuit} {nodes letters : ℕ} {t : Table} {values touched before : List ℕ} {from i count : ℕ} {l w h ix : List ℕ} {used : ℕ} {out : List ℕ} → KeptRest c nodes letters t values touched before from i l w h ix used out → count ≤ i
-    → KeptRest c nodes letters t values touched before from count l w h ix used out
+pub resting-done : {c : Circuit} {nodes letters : ℕ} {t : Table} {values active before : List ℕ} {from i count : ℕ} {l w h ix : List ℕ} {used : ℕ} {out : List ℕ} → KeptRest c nodes letters t values active before from i l w h ix used out → count ≤ i
+    → KeptRest c nodes letters t values active before from count l w h ix used out
 resting-done r le = record { opened = r .opened; extends = r .extends; kept-used = r .kept-used; same = r .same; open-is = λ i p z a b. r .open-is i p z a (omega arith) }
 
 -- values stay bits as the table grows
@@ -142,10 +142,10 @@ pub bits-kept : {nodes letters : ℕ} {l0 w0 h0 ix0 l w h ix : List ℕ} {used0 
 bits-kept values o hv few _ x bits n p hn hp = subst (λ (z : ℕ). z ≤ 1) (sym (number-kept o x (getD values n 0) p (hv n (omega (arith, hn, few))))) (bits n p hn hp)
 
 -- those by the matrix, and then the others
-pub kept-both : {c : Circuit} {nodes letters : ℕ} {l0 w0 h0 ix0 : List ℕ} {used0 : ℕ} {values touched first : List ℕ} {from count : ℕ} {l w h ix l1 w1 h1 ix1 : List ℕ} {used used1 : ℕ} {kept : List ℕ}
-    → Open letters l0 w0 h0 ix0 used0 → AllUsed 26 values used0 → nodes ≤ 24 → from ≤ 64 → KeptLooped c nodes letters (held l0 w0 h0 used0) values touched from l w h ix used first
-    → KeptRest c nodes letters (held l w h used) values touched first from count l1 w1 h1 ix1 used1 kept → KeptAll c nodes letters (held l0 w0 h0 used0) values touched from count l1 w1 h1 ix1 used1 kept
-kept-both {c} {nodes} {letters} {l0} {w0} {h0} {used0 = used0} {values} {touched} {first} {from} {count} {l} {w} {h} {used = used} {kept = kept} o hv few small a r = record {
+pub kept-both : {c : Circuit} {nodes letters : ℕ} {l0 w0 h0 ix0 : List ℕ} {used0 : ℕ} {values active first : List ℕ} {from count : ℕ} {l w h ix l1 w1 h1 ix1 : List ℕ} {used used1 : ℕ} {kept : List ℕ}
+    → Open letters l0 w0 h0 ix0 used0 → AllUsed 26 values used0 → nodes ≤ 24 → from ≤ 64 → KeptLooped c nodes letters (held l0 w0 h0 used0) values active from l w h ix used first
+    → KeptRest c nodes letters (held l w h used) values active first from count l1 w1 h1 ix1 used1 kept → KeptAll c nodes letters (held l0 w0 h0 used0) values active from count l1 w1 h1 ix1 used1 kept
+kept-both {c} {nodes} {letters} {l0} {w0} {h0} {used0 = used0} {values} {active} {first} {from} {count} {l} {w} {h} {used = used} {kept = kept} o hv few small a r = record {
   opened = r .opened;
   extends = extends-trans (a .extends) (r .extends);
   kept-used = r .kept-used;

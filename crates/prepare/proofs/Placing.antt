@@ -2,16 +2,12 @@
 use mathlib.Core.Path.{_≡_, refl, sym, _∙_, subst}
 use mathlib.Core.Logic.{⊎-elim}
 use mathlib.Core.List.{List}
-use mathlib.Core.Bool.{cond}
 use Prim.Native.Nat.{ℕ, _+_, _≤_, _<_}
 use native.Mathlib.Omega.{arith}
 use lib.ListN.{length, getD, set, replicate, length-set, length-replicate, getD-replicate, List·getD-eq-default}
 use lib.Seq.{getD-set-same, getD-set-other}
 use Rattle.lists.proofs.Cases.{eq-or-ne, lt-or-ge}
-use Rattle.format.specs.Circuit.{Circuit}
-use Rattle.rules.specs.State.{isInner}
-use Rattle.rules.specs.Group.{labelAt, groups}
-use Rattle.net.specs.Roots.{touchedPlace, allPendingPlace, allRootsLength}
+use Rattle.net.specs.Roots.{seedsPlace, pendingPlace, allRootsLength}
 use Rattle.prepare.specs.Roots.{NodeRoots, KeptRoots}
 
 -- three places written
@@ -33,46 +29,46 @@ pub zeros-at : (n j : ℕ) → _≡_ {A = ℕ} (getD (replicate n 0) j 0) 0
 zeros-at n j = ⊎-elim (λ (h : j < n). getD-replicate {A = ℕ} n j 0 0 h) (λ (h : n ≤ j). List·getD-eq-default {A = ℕ} (replicate n 0) 0 (subst (λ (m : ℕ). m ≤ j) (sym (length-replicate {A = ℕ} n 0)) h)) (lt-or-ge j n)
 
 -- a loop over the nodes
-pub record Placing (c : Circuit) (nodes : ℕ) (values touched waiting : List ℕ) (count n : ℕ) (roots : List ℕ) : Type 0 where
+pub record Placing (values seeds waiting : List ℕ) (count n : ℕ) (roots : List ℕ) : Type 0 where
   pub few : n ≤ count
   pub long : length roots ≡ allRootsLength
-  pub placed : NodeRoots c nodes values touched waiting n roots
+  pub placed : NodeRoots values seeds waiting n roots
 
-pub placing-first : {c : Circuit} {nodes : ℕ} {values touched waiting : List ℕ} {count : ℕ} {roots : List ℕ} → length roots ≡ allRootsLength → ((j : ℕ) → getD roots j 0 ≡ 0) → Placing c nodes values touched waiting count 0 roots
+pub placing-first : {values seeds waiting : List ℕ} {count : ℕ} {roots : List ℕ} → length roots ≡ allRootsLength → ((j : ℕ) → getD roots j 0 ≡ 0) → Placing values seeds waiting count 0 roots
 placing-first long zeros = record {
   few = omega arith;
   long = long;
-  placed = record { value-at = λ n h. absurd (omega arith); touched-at = λ n h. absurd (omega arith); pending-at = λ n h. absurd (omega arith); rest-at = λ j _ _ _. zeros j };
+  placed = record { value-at = λ n h. absurd (omega arith); seed-at = λ n h. absurd (omega arith); pending-at = λ n h. absurd (omega arith); rest-at = λ j _ _ _. zeros j };
 }
 
-pub placing-next : {c : Circuit} {nodes : ℕ} {values touched waiting : List ℕ} {count n : ℕ} {roots : List ℕ} {e : ℕ} → Placing c nodes values touched waiting count n roots → n < count → count ≤ 26 → e ≡ cond (isInner c n) (getD touched (labelAt (groups c) n) 0) 0
-    → Placing c nodes values touched waiting count (n + 1) (set (set (set roots n (getD values n 0)) (touchedPlace + n) e) (allPendingPlace + n) (getD waiting n 0))
-placing-next {c} {nodes} {values} {touched} {waiting} {count} {n} {roots} {e} s lt le same = record {
+pub placing-next : {values seeds waiting : List ℕ} {count n : ℕ} {roots : List ℕ} → Placing values seeds waiting count n roots → n < count → count ≤ 26
+    → Placing values seeds waiting count (n + 1) (set (set (set roots n (getD values n 0)) (seedsPlace + n) (getD seeds n 0)) (pendingPlace + n) (getD waiting n 0))
+placing-next {values} {seeds} {waiting} {count} {n} {roots} s lt le = record {
   few = omega arith;
   long = simp length-set (s .long);
   placed = record {
     value-at = λ m hm.
         ⊎-elim
-        (λ (q : m ≡ n). rw q (three-first roots n (touchedPlace + n) (allPendingPlace + n) _ _ _ (omega (arith, s .long)) (λ r. omega arith) (λ r. omega arith)))
-        (λ (ne : m ≡ n → ⊥). three-rest roots n (touchedPlace + n) (allPendingPlace + n) _ _ _ m ne (λ r. omega arith) (λ r. omega arith) ∙ s .placed .value-at m (omega (arith, ne)))
+        (λ (q : m ≡ n). rw q (three-first roots n (seedsPlace + n) (pendingPlace + n) _ _ _ (omega (arith, s .long)) (λ r. omega arith) (λ r. omega arith)))
+        (λ (ne : m ≡ n → ⊥). three-rest roots n (seedsPlace + n) (pendingPlace + n) _ _ _ m ne (λ r. omega arith) (λ r. omega arith) ∙ s .placed .value-at m (omega (arith, ne)))
         (eq-or-ne m n);
-    touched-at = λ m hm.
+    seed-at = λ m hm.
         ⊎-elim
-        (λ (q : m ≡ n). rw q (three-second roots n (touchedPlace + n) (allPendingPlace + n) _ _ _ (omega (arith, s .long)) (λ r. omega arith) ∙ same))
-        (λ (ne : m ≡ n → ⊥). three-rest roots n (touchedPlace + n) (allPendingPlace + n) _ _ _ (touchedPlace + m) (λ r. omega arith) (λ r. ne (omega arith)) (λ r. omega arith) ∙ s .placed .touched-at m (omega (arith, ne)))
+        (λ (q : m ≡ n). rw q (three-second roots n (seedsPlace + n) (pendingPlace + n) _ _ _ (omega (arith, s .long)) (λ r. omega arith)))
+        (λ (ne : m ≡ n → ⊥). three-rest roots n (seedsPlace + n) (pendingPlace + n) _ _ _ (seedsPlace + m) (λ r. omega arith) (λ r. ne (omega arith)) (λ r. omega arith) ∙ s .placed .seed-at m (omega (arith, ne)))
         (eq-or-ne m n);
     pending-at = λ m hm.
         ⊎-elim
-        (λ (q : m ≡ n). rw q (three-third roots n (touchedPlace + n) (allPendingPlace + n) _ _ _ (omega (arith, s .long))))
-        (λ (ne : m ≡ n → ⊥). three-rest roots n (touchedPlace + n) (allPendingPlace + n) _ _ _ (allPendingPlace + m) (λ r. omega arith) (λ r. omega arith) (λ r. ne (omega arith)) ∙ s .placed .pending-at m (omega (arith, ne)))
+        (λ (q : m ≡ n). rw q (three-third roots n (seedsPlace + n) (pendingPlace + n) _ _ _ (omega (arith, s .long))))
+        (λ (ne : m ≡ n → ⊥). three-rest roots n (seedsPlace + n) (pendingPlace + n) _ _ _ (pendingPlace + m) (λ r. omega arith) (λ r. omega arith) (λ r. ne (omega arith)) ∙ s .placed .pending-at m (omega (arith, ne)))
         (eq-or-ne m n);
     rest-at = λ j p q r.
-        three-rest roots n (touchedPlace + n) (allPendingPlace + n) _ _ _ j (λ z. absurd (omega (arith, p (omega arith)))) (λ z. absurd (omega (arith, q (omega arith) (omega arith)))) (λ z. absurd (omega (arith, r (omega arith))))
+        three-rest roots n (seedsPlace + n) (pendingPlace + n) _ _ _ j (λ z. absurd (omega (arith, p (omega arith)))) (λ z. absurd (omega (arith, q (omega arith) (omega arith)))) (λ z. absurd (omega (arith, r (omega arith))))
         ∙ s .placed .rest-at j (λ h. omega (arith, p h)) (λ h g. omega (arith, q h g)) (λ h. omega (arith, r h));
   };
 }
 
-pub placing-done : {c : Circuit} {nodes : ℕ} {values touched waiting : List ℕ} {count n more : ℕ} {roots : List ℕ} → Placing c nodes values touched waiting count n roots → count ≤ n → count ≡ more → NodeRoots c nodes values touched waiting more roots
+pub placing-done : {values seeds waiting : List ℕ} {count n more : ℕ} {roots : List ℕ} → Placing values seeds waiting count n roots → count ≤ n → count ≡ more → NodeRoots values seeds waiting more roots
 placing-done {count = count} {n} {more} s le e =
     let z : n ≡ more = omega (arith, s .few) in
     rw z at (s .placed)

@@ -3,26 +3,27 @@ use mathlib.Core.Path.{_≡_, refl, sym, _∙_, subst}
 use mathlib.Core.Logic.{inl, ⊎-elim}
 use mathlib.Core.List.{List, [], _∷_, List·Memᴰ·head, List·Memᴰ·tail}
 use mathlib.Core.Bool.{Bool, true, false, _&&_, _||_, cond}
-use Prim.Native.Nat.{ℕ, _+_, _-_, _≤_, _<_}
+use Prim.Native.Nat.{ℕ, _+_, _≤_, _<_}
 use native.Mathlib.Omega.{arith}
 use lib.ListN.{length}
 use lib.Dec.{eqb}
-use borrow.Author.Tests.{lt-leb, eq-eqb, ne-eqb}
-use Rattle.lists.proofs.Cases.{eq-or-ne, and-both}
+use borrow.Author.Tests.{lt-leb, eqb-true}
+use Rattle.lists.proofs.Cases.{eq-or-ne, and-both, or-cases}
 use Rattle.format.specs.declared.Transistor.{Transistor}
 use Rattle.format.specs.Circuit.{Circuit, noTransistor}
 use Rattle.format.specs.Legal.{isInput}
 use Rattle.format.proofs.Legal.{LegalTransistor, LegalCell, legal-cell}
 use Rattle.rules.specs.State.{nodeNumbers, isInner}
-use Rattle.rules.specs.Group.{Labels, labelAt, join, betweenInner, linkFrom, groups}
+use Rattle.rules.specs.Label.{Labels, labelAt, join, betweenInner, linkFrom}
+use Rattle.rules.specs.Group.{groups, ofGroup}
 use Rattle.rules.proofs.State.{up-length}
-use Rattle.rules.proofs.Label.{IsNode, AllLegal, all-legal, joined-alike, inner-node, ends-inner, relabel-same, relabel-other, length-join, label-join, first-label, groups-join, Linked·same, Linked·over}
+use Rattle.rules.proofs.Label.{false-true, IsNode, AllLegal, all-legal, joined-alike, inner-node, ends-inner, relabel-same, relabel-other, length-join, label-join, first-label, groups-join, Linked·same, Linked·over}
 use Rattle.rules.specs.Matrix.{transistorAt}
 use Rattle.rules.proofs.Matrix.{at-member}
 use Rattle.net.specs.Net.{at, netTransistor, netCircuit}
 use Rattle.net.specs.Laid.{Laid}
 use Rattle.net.proofs.Laying.{nodes-length, transistors-length, transistor-at}
-use Rattle.prepare.specs.Steps.{groupOf, ofLabel}
+use Rattle.prepare.specs.Steps.{groupOf}
 
 -- labels that are nodes themselves
 record Noded (nodes : ℕ) (ls : Labels) : Type 0 where
@@ -58,40 +59,17 @@ label-node c l n h =
     (record { size = up-length (length (c .nodes)) 2; node = λ x hx. subst (IsNode (length (c .nodes))) (sym (first-label (length (c .nodes)) x hx)) hx })
     .node n h
 
--- two ends, inner or not, and their labels
-module _ (a b : Bool) (la lb : ℕ) where
-  none-of : (a ≡ true → 2 ≤ la) → (b ≡ true → 2 ≤ lb) → cond a la (cond b lb 0) ≡ 0 → (g : ℕ) → (a && eqb g la) || (b && eqb g lb) ≡ false
-  none-of = by a b
-    where
-      by : (a b : Bool) → (a ≡ true → 2 ≤ la) → (b ≡ true → 2 ≤ lb) → cond a la (cond b lb 0) ≡ 0 → (g : ℕ) → (a && eqb g la) || (b && eqb g lb) ≡ false
-      by true b ha hb e g = absurd (omega (arith, ha refl))
-      by false true ha hb e g = absurd (omega (arith, hb refl))
-      by false false ha hb e g = refl
-
-  own-of : (cond a la (cond b lb 0) ≡ 0 → ⊥) → (a && eqb (cond a la (cond b lb 0)) la) || (b && eqb (cond a la (cond b lb 0)) lb) ≡ true
-  own-of = by a b
-    where
-      by : (a b : Bool) → (cond a la (cond b lb 0) ≡ 0 → ⊥) → (a && eqb (cond a la (cond b lb 0)) la) || (b && eqb (cond a la (cond b lb 0)) lb) ≡ true
-      by true b ne = rw (eq-eqb la la refl)
-      by false true ne = eq-eqb lb lb refl
-      by false false ne = absurd (ne refl)
-
-  other-of : (a ≡ true → b ≡ true → la ≡ lb) → (g : ℕ) → (g ≡ cond a la (cond b lb 0) → ⊥) → (a && eqb g la) || (b && eqb g lb) ≡ false
-  other-of = by a b
-    where
-      by : (a b : Bool) → (a ≡ true → b ≡ true → la ≡ lb) → (g : ℕ) → (g ≡ cond a la (cond b lb 0) → ⊥) → (a && eqb g la) || (b && eqb g lb) ≡ false
-      by true true same g ne = rw (ne-eqb g la ne, ne-eqb g lb (λ e. ne (e ∙ sym (same refl refl))))
-      by true false same g ne = rw (ne-eqb g la ne)
-      by false true same g ne = ne-eqb g lb ne
-      by false false same g ne = refl
+-- two ends, inner or not, and their labels: one of them is the group's
+one-of : (a b : Bool) (la lb : ℕ) → (a ≡ true → b ≡ true → la ≡ lb) → (g : ℕ) → (a && eqb g la) || (b && eqb g lb) ≡ true → g ≡ cond a la (cond b lb 0)
+one-of true true la lb same g e = ⊎-elim (λ (q : eqb g la ≡ true). eqb-true g la q) (λ (q : eqb g lb ≡ true). eqb-true g lb q ∙ sym (same refl refl)) (or-cases (eqb g la) (eqb g lb) e)
+one-of true false la lb same g e = ⊎-elim (λ (q : eqb g la ≡ true). eqb-true g la q) (λ (q : false ≡ true). false-true q) (or-cases (eqb g la) false e)
+one-of false true la lb same g e = eqb-true g lb e
+one-of false false la lb same g e = false-true e
 
 -- the group of a transistor, by its label
 module _ (c : Circuit) (l : LegalCell c) (i : ℕ) (h : i < length (c .transistors)) where
   abbrev t : Transistor
   t = transistorAt c i
-
-  label-least : (n : ℕ) → n < 2 + length (c .nodes) → isInner c n ≡ true → 2 ≤ labelAt (groups c) n
-  label-least n lt e = label-node c l n (inner-node c (length (c .nodes)) n e lt) .least
 
   same-label : isInner c (t .first) ≡ true → isInner c (t .second) ≡ true → labelAt (groups c) (t .first) ≡ labelAt (groups c) (t .second)
   same-label ea eb =
@@ -99,14 +77,9 @@ module _ (c : Circuit) (l : LegalCell c) (i : ℕ) (h : i < length (c .transisto
       (groups-join c (all-legal l) (t .first) (t .second)
       (Linked·over (record { transistor = t; listed = at-member (c .transistors) noTransistor i h; inner = and-both (isInner c (t .first)) (isInner c (t .second)) ea eb; ends = inl (refl, refl) }) (Linked·same refl)))
 
-  pub group-none : groupOf c (transistorAt c i) ≡ 0 → (g : ℕ) → ofLabel c g (transistorAt c i) ≡ false
-  group-none = none-of (isInner c (t .first)) (isInner c (t .second)) (labelAt (groups c) (t .first)) (labelAt (groups c) (t .second)) (label-least (t .first) (l .transistor i h .first-is)) (label-least (t .second) (l .transistor i h .second-is))
-
-  pub group-own : (groupOf c (transistorAt c i) ≡ 0 → ⊥) → ofLabel c (groupOf c (transistorAt c i)) (transistorAt c i) ≡ true
-  group-own = own-of (isInner c (t .first)) (isInner c (t .second)) (labelAt (groups c) (t .first)) (labelAt (groups c) (t .second))
-
-  pub group-other : (g : ℕ) → (g ≡ groupOf c (transistorAt c i) → ⊥) → ofLabel c g (transistorAt c i) ≡ false
-  group-other = other-of (isInner c (t .first)) (isInner c (t .second)) (labelAt (groups c) (t .first)) (labelAt (groups c) (t .second)) same-label
+  -- the label of a node's group is that of its transistors
+  pub group-is : (n : ℕ) → ofGroup c n (transistorAt c i) ≡ true → labelAt (groups c) n ≡ groupOf c (transistorAt c i)
+  group-is n = one-of (isInner c (t .first)) (isInner c (t .second)) (labelAt (groups c) (t .first)) (labelAt (groups c) (t .second)) same-label (labelAt (groups c) n)
 
 -- a laid-out cell
 module _ (net : List ℕ) (k : Laid (netCircuit net) net) where
@@ -184,17 +157,6 @@ module _ (net : List ℕ) (k : Laid (netCircuit net) net) where
       let two : IsNode (length (netCircuit net .nodes)) (netTransistor net i .first) × IsNode (length (netCircuit net .nodes)) (netTransistor net i .second) =
       ends-inner (netCircuit net) (length (netCircuit net .nodes)) (netTransistor net i) (laid-transistor i h) e in
       ((two .0 .least, laid-first i h), (two .1 .least, laid-second i h))
-
-  module _ (i : ℕ) (h : i < at net 1) where
-    -- the group of a laid-out transistor
-    pub laid-none : groupOf (netCircuit net) (netTransistor net i) ≡ 0 → (g : ℕ) → ofLabel (netCircuit net) g (netTransistor net i) ≡ false
-    laid-none = subst (λ (t : Transistor). groupOf (netCircuit net) t ≡ 0 → (g : ℕ) → ofLabel (netCircuit net) g t ≡ false) (laid-at i h) (group-none (netCircuit net) laid-legal i (laid-below i h))
-
-    pub laid-own : (groupOf (netCircuit net) (netTransistor net i) ≡ 0 → ⊥) → ofLabel (netCircuit net) (groupOf (netCircuit net) (netTransistor net i)) (netTransistor net i) ≡ true
-    laid-own = subst (λ (t : Transistor). (groupOf (netCircuit net) t ≡ 0 → ⊥) → ofLabel (netCircuit net) (groupOf (netCircuit net) t) t ≡ true) (laid-at i h) (group-own (netCircuit net) laid-legal i (laid-below i h))
-
-    pub laid-other : (g : ℕ) → (g ≡ groupOf (netCircuit net) (netTransistor net i) → ⊥) → ofLabel (netCircuit net) g (netTransistor net i) ≡ false
-    laid-other = subst (λ (t : Transistor). (g : ℕ) → (g ≡ groupOf (netCircuit net) t → ⊥) → ofLabel (netCircuit net) g t ≡ false) (laid-at i h) (group-other (netCircuit net) laid-legal i (laid-below i h))
 
 -- a choice by a test that passes, or fails
 pub if-so : {b : Bool} (x y : ℕ) → b ≡ true → x ≡ cond b x y

@@ -1,7 +1,7 @@
 -- What each part of preparing a step works out, number by number.
 use mathlib.Core.Path.{_≡_}
 use mathlib.Core.List.{List}
-use mathlib.Core.Bool.{Bool, not, _&&_, _||_, cond}
+use mathlib.Core.Bool.{Bool, true, not, _&&_, _||_, cond}
 use Prim.Native.Nat.{ℕ, _+_, _<_, _≤_}
 use lib.ListN.{getD}
 use lib.Dec.{ltb, eqb}
@@ -15,8 +15,9 @@ use Rattle.diagram.specs.Extends.{Extends}
 use Rattle.functions.specs.Open.{Open}
 use Rattle.working.specs.Grown.{bit}
 use Rattle.working.specs.Many.{cell, AllUsed}
-use Rattle.rules.specs.State.{State, valueAt, isInner}
-use Rattle.rules.specs.Group.{labelAt, groups, some}
+use Rattle.rules.specs.State.{State, valueAt, isInner, nodeNumbers}
+use Rattle.rules.specs.Label.{labelAt, ofPiece, some}
+use Rattle.rules.specs.Group.{groups}
 use Rattle.rules.specs.Kept.{conducts}
 use Rattle.rules.specs.Matrix.{isHeld, matrixAt, transistorAt}
 
@@ -36,10 +37,6 @@ one letters t e p = eqb (numberAt letters t e p) 1
 abbrev pub groupOf : Circuit → Transistor → ℕ
 groupOf c t = cond (isInner c (t .first)) (labelAt (groups c) (t .first)) (cond (isInner c (t .second)) (labelAt (groups c) (t .second)) 0)
 
--- a transistor of the group with a label
-abbrev pub ofLabel : Circuit → ℕ → Transistor → Bool
-ofLabel c g t = (isInner c (t .first) && eqb g (labelAt (groups c) (t .first))) || (isInner c (t .second) && eqb g (labelAt (groups c) (t .second)))
-
 -- rule 2 for one transistor, over the nodes that changed
 abbrev pub disturbedBy : Circuit → (ℕ → Bool) → Transistor → Bool
 disturbedBy c changed t = changed (t .gate) || (isInput c (t .first) && changed (t .first)) || (isInput c (t .second) && changed (t .second))
@@ -48,73 +45,81 @@ disturbedBy c changed t = changed (t .gate) || (isInput c (t .first) && changed 
 abbrev pub considered : ℕ → ℕ → Bool
 considered only g = eqb only 0 || eqb g only
 
--- a considered group is touched by one of some transistors
-abbrev pub touchedBy : Circuit → ℕ → (ℕ → Bool) → List Transistor → ℕ → Bool
-touchedBy c only changed ts g = some (λ (t : Transistor). considered only g && ofLabel c g t && disturbedBy c changed t) ts
+-- an inner node of a considered group
+abbrev pub isConsidered : Circuit → ℕ → ℕ → Bool
+isConsidered c only n = isInner c n && considered only (labelAt (groups c) n)
+
+-- rule 2 for one node, over the nodes that changed
+abbrev pub seedBy : Circuit → (ℕ → Bool) → ℕ → Bool
+seedBy c changed n = some (λ (t : Transistor). ofPiece c (nodeNumbers c) n t && disturbedBy c changed t) (c .transistors)
+
+-- 1 for a seed among the first `count` nodes, if its group is considered: everywhere where `all`
+abbrev pub seedNumber : Circuit → ℕ → Bool → ℕ → (ℕ → Bool) → ℕ → ℕ
+seedNumber c count all only changed n = cond (ltb n count) (bit (isConsidered c only n && (all || seedBy c changed n))) 0
 
 -- node n has other numbers at a pattern, by the entries before and after
 abbrev pub differs : ℕ → ℕ → Table → List ℕ → List ℕ → ℕ → ℕ → Bool
 differs count letters t before after p n = ltb n count && not (eqb (numberAt letters t (getD before n 0) p) (numberAt letters t (getD after n 0) p))
 
--- the group with a label is touched at a pattern: everywhere where `all`
-abbrev pub touchedLabel : Circuit → ℕ → ℕ → Table → List ℕ → List ℕ → Bool → ℕ → ℕ → ℕ → Bool
-touchedLabel c count letters t before after all only p g =
-    cond all (not (eqb g 0) && considered only g) (touchedBy c only (differs count letters t before after p) (c .transistors) g)
+-- by label, 0 or 1: 1 for each group with an inner node whose seed function is not entry 0
+pub record Active (c : Circuit) (count : ℕ) (seeds active : List ℕ) : Type 0 where
+  pub bits : (g : ℕ) → g < 26 → getD active g 0 ≤ 1
+  pub marked : (n : ℕ) → n < count → isInner c n ≡ true → (getD seeds n 0 ≡ 0 → ⊥) → getD active (labelAt (groups c) n) 0 ≡ 1
 
 -- an n conducts where its gate is 1, a p where it is not
 abbrev pub conductsNumber : (polarity gate : ℕ) → ℕ
 conductsNumber polarity gate = cond (eqb polarity 1) (cond (eqb gate 1) 0 1) gate
 
--- kept: touched, conducting, and not joined already where both ends are inner
-abbrev pub keptNumber : (polarity : ℕ) (between : Bool) (touched gate joined : ℕ) → ℕ
-keptNumber polarity between touched gate joined =
-    cond between (cond (eqb joined 1) 0 (cond (eqb touched 1) (conductsNumber polarity gate) 0)) (cond (eqb touched 1) (conductsNumber polarity gate) 0)
+-- kept: of an active group, conducting, and not joined already where both ends are inner
+abbrev pub keptNumber : (polarity : ℕ) (between : Bool) (active gate joined : ℕ) → ℕ
+keptNumber polarity between active gate joined =
+    cond between (cond (eqb joined 1) 0 (cond (eqb active 1) (conductsNumber polarity gate) 0)) (cond (eqb active 1) (conductsNumber polarity gate) 0)
 
--- the groups that are touched at a pattern, by transistor number
+-- whether the group of a transistor is active at a pattern
 abbrev pub lookedAt : Circuit → ℕ → Table → List ℕ → ℕ → ℕ → Bool
-lookedAt c letters t touched p i = one letters t (getD touched (groupOf c (transistorAt c i)) 0) p
+lookedAt c letters t active p i = one letters t (getD active (groupOf c (transistorAt c i)) 0) p
 
 -- the first `count` transistors gone through: their kept functions, and the matrix after them
-pub record Keeping (c : Circuit) (nodes letters : ℕ) (t : Table) (values touched : List ℕ) (count : ℕ) (l w h ix : List ℕ) (used : ℕ) (kept : List ℕ) (joined : List (List ℕ)) : Type 0 where
+pub record Keeping (c : Circuit) (nodes letters : ℕ) (t : Table) (values active : List ℕ) (count : ℕ) (l w h ix : List ℕ) (used : ℕ) (kept : List ℕ) (joined : List (List ℕ)) : Type 0 where
   pub opened : Open letters l w h ix used
   pub extends : Extends t (held l w h used)
   pub kept-used : AllUsed 64 kept used
   pub joined-used : (x y : ℕ) → x < 24 → y < 24 → cell joined x y < used
   pub kept-is : (i p : ℕ) (s : State) → i < count → p < patterns letters → Shows letters t values nodes p s
-      → numberAt letters (held l w h used) (getD kept i 0) p ≡ bit (isHeld c s (lookedAt c letters t touched p) i)
+      → numberAt letters (held l w h used) (getD kept i 0) p ≡ bit (isHeld c s (lookedAt c letters t active p) i)
   pub joined-is : (x y p : ℕ) (s : State) → x < 24 → y < 24 → p < patterns letters → Shows letters t values nodes p s
-      → numberAt letters (held l w h used) (cell joined x y) p ≡ bit (matrixAt c s (lookedAt c letters t touched p) count (x + 2) (y + 2))
+      → numberAt letters (held l w h used) (cell joined x y) p ≡ bit (matrixAt c s (lookedAt c letters t active p) count (x + 2) (y + 2))
 
--- past the last transistor that closes a loop: where it conducts; nowhere where the touched function of its group is entry 0
-abbrev pub openNumber : (polarity touched gate : ℕ) → ℕ
-openNumber polarity touched gate = cond (eqb touched 0) 0 (conductsNumber polarity gate)
+-- past the last transistor that closes a loop: where it conducts; nowhere where its group is not active
+abbrev pub openNumber : (polarity active gate : ℕ) → ℕ
+openNumber polarity active gate = cond (eqb active 0) 0 (conductsNumber polarity gate)
 
 abbrev pub isOpen : Circuit → State → List ℕ → ℕ → Bool
-isOpen c s touched i = not (eqb (getD touched (groupOf c (transistorAt c i)) 0) 0) && conducts s (transistorAt c i)
+isOpen c s active i = not (eqb (getD active (groupOf c (transistorAt c i)) 0) 0) && conducts s (transistorAt c i)
 
 -- the kept functions of the transistors before `count` that the matrix was asked for
-pub record KeptLooped (c : Circuit) (nodes letters : ℕ) (t : Table) (values touched : List ℕ) (count : ℕ) (l w h ix : List ℕ) (used : ℕ) (kept : List ℕ) : Type 0 where
+pub record KeptLooped (c : Circuit) (nodes letters : ℕ) (t : Table) (values active : List ℕ) (count : ℕ) (l w h ix : List ℕ) (used : ℕ) (kept : List ℕ) : Type 0 where
   pub opened : Open letters l w h ix used
   pub extends : Extends t (held l w h used)
   pub kept-used : AllUsed 64 kept used
   pub kept-is : (i p : ℕ) (s : State) → i < count → p < patterns letters → Shows letters t values nodes p s
-      → numberAt letters (held l w h used) (getD kept i 0) p ≡ bit (isHeld c s (lookedAt c letters t touched p) i)
+      → numberAt letters (held l w h used) (getD kept i 0) p ≡ bit (isHeld c s (lookedAt c letters t active p) i)
 
 -- those from `from` on and before `count`, beside some before them
-pub record KeptRest (c : Circuit) (nodes letters : ℕ) (t : Table) (values touched before : List ℕ) (from count : ℕ) (l w h ix : List ℕ) (used : ℕ) (kept : List ℕ) : Type 0 where
+pub record KeptRest (c : Circuit) (nodes letters : ℕ) (t : Table) (values active before : List ℕ) (from count : ℕ) (l w h ix : List ℕ) (used : ℕ) (kept : List ℕ) : Type 0 where
   pub opened : Open letters l w h ix used
   pub extends : Extends t (held l w h used)
   pub kept-used : AllUsed 64 kept used
   pub same : (i : ℕ) → i < from → getD kept i 0 ≡ getD before i 0
   pub open-is : (i p : ℕ) (s : State) → from ≤ i → i < count → p < patterns letters → Shows letters t values nodes p s
-      → numberAt letters (held l w h used) (getD kept i 0) p ≡ bit (isOpen c s touched i)
+      → numberAt letters (held l w h used) (getD kept i 0) p ≡ bit (isOpen c s active i)
 
 -- the kept functions of all transistors: those before `from` by the matrix, the others where they conduct
-pub record KeptAll (c : Circuit) (nodes letters : ℕ) (t : Table) (values touched : List ℕ) (from count : ℕ) (l w h ix : List ℕ) (used : ℕ) (kept : List ℕ) : Type 0 where
+pub record KeptAll (c : Circuit) (nodes letters : ℕ) (t : Table) (values active : List ℕ) (from count : ℕ) (l w h ix : List ℕ) (used : ℕ) (kept : List ℕ) : Type 0 where
   pub opened : Open letters l w h ix used
   pub extends : Extends t (held l w h used)
   pub kept-used : AllUsed 64 kept used
   pub kept-is : (i p : ℕ) (s : State) → i < from → p < patterns letters → Shows letters t values nodes p s
-      → numberAt letters (held l w h used) (getD kept i 0) p ≡ bit (isHeld c s (lookedAt c letters t touched p) i)
+      → numberAt letters (held l w h used) (getD kept i 0) p ≡ bit (isHeld c s (lookedAt c letters t active p) i)
   pub open-is : (i p : ℕ) (s : State) → from ≤ i → i < count → p < patterns letters → Shows letters t values nodes p s
-      → numberAt letters (held l w h used) (getD kept i 0) p ≡ bit (isOpen c s touched i)
+      → numberAt letters (held l w h used) (getD kept i 0) p ≡ bit (isOpen c s active i)

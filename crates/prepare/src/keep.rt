@@ -11,11 +11,11 @@ ghost use Rattle.table.specs.Stop.{stopped};
 ghost use Rattle.functions.specs.Open.{Open};
 ghost use Rattle.working.specs.Grown.{bit, Crowded, Grown};
 ghost use Rattle.working.specs.Many.{AllUsed, cell, Matrixed, linkedNumber};
-ghost use Rattle.rules.specs.Group.{betweenInner};
+ghost use Rattle.rules.specs.Label.{betweenInner};
 ghost use Rattle.net.specs.Net.{nodesPlace, transistorsPlace, at as atPlace, netTransistor, netCircuit};
 ghost use Rattle.net.specs.Laid.{Laid};
 ghost use Rattle.prepare.specs.Steps.{Bits, groupOf, conductsNumber, keptNumber, KeptLooped};
-use crate::touch::group_of;
+use crate::group::group_of;
 use net::inner::between_inner;
 use table::Put;
 use table::Stop;
@@ -61,11 +61,11 @@ pub fn conducts(
     }
 }
 
-// Transistor i is kept where it is touched and conducts, unless its ends are inner nodes that are joined already.
+// Transistor i is kept where its group is active and it conducts, unless its ends are inner nodes that are joined already.
 fn keep(
     net: &[u32],
     values: [u32; 26],
-    touched: [u32; 26],
+    active: [u32; 26],
     joined: &[[u32; 24]; 24],
     letter: &mut [u32],
     low: &mut [u32],
@@ -76,11 +76,11 @@ fn keep(
     i: u32,
 ) -> Put
     requires { ⌜ Laid (netCircuit (now net)) (now net) × (i < atPlace (now net) transistorsPlace) ⌝ }
-    requires { ⌜ Open k (now letter) (now low) (now high) (now index) used × AllUsed 26 values used × AllUsed 26 touched used × ((x y : ℕ) → x < 24 → y < 24 → cell (now joined) x y < used) ⌝ }
-    ensures { λ r. ⌜ Grown k (held (now (letter .entry)) (now (low .entry)) (now (high .entry)) used) (λ p. keptNumber (netTransistor (now (net .entry)) i .polarity) (betweenInner (netCircuit (now (net .entry))) (netTransistor (now (net .entry)) i)) (numberAt k (held (now (letter .entry)) (now (low .entry)) (now (high .entry)) used) (getD touched (groupOf (netCircuit (now (net .entry))) (netTransistor (now (net .entry)) i)) 0) p) (numberAt k (held (now (letter .entry)) (now (low .entry)) (now (high .entry)) used) (getD values (netTransistor (now (net .entry)) i .gate) 0) p) (numberAt k (held (now (letter .entry)) (now (low .entry)) (now (high .entry)) used) (cell (now (joined .entry)) (netTransistor (now (net .entry)) i .first - 2) (netTransistor (now (net .entry)) i .second - 2)) p)) (now (letter .exit)) (now (low .exit)) (now (high .exit)) (now (index .exit)) r ⌝ }
+    requires { ⌜ Open k (now letter) (now low) (now high) (now index) used × AllUsed 26 values used × AllUsed 26 active used × ((x y : ℕ) → x < 24 → y < 24 → cell (now joined) x y < used) ⌝ }
+    ensures { λ r. ⌜ Grown k (held (now (letter .entry)) (now (low .entry)) (now (high .entry)) used) (λ p. keptNumber (netTransistor (now (net .entry)) i .polarity) (betweenInner (netCircuit (now (net .entry))) (netTransistor (now (net .entry)) i)) (numberAt k (held (now (letter .entry)) (now (low .entry)) (now (high .entry)) used) (getD active (groupOf (netCircuit (now (net .entry))) (netTransistor (now (net .entry)) i)) 0) p) (numberAt k (held (now (letter .entry)) (now (low .entry)) (now (high .entry)) used) (getD values (netTransistor (now (net .entry)) i .gate) 0) p) (numberAt k (held (now (letter .entry)) (now (low .entry)) (now (high .entry)) used) (cell (now (joined .entry)) (netTransistor (now (net .entry)) i .first - 2) (netTransistor (now (net .entry)) i .second - 2)) p)) (now (letter .exit)) (now (low .exit)) (now (high .exit)) (now (index .exit)) r ⌝ }
 {
     let g = group_of(net, i);
-    let e = touched[g];
+    let e = active[g];
     if e == 0 {
         return Put {
             stop: Stop::Going,
@@ -154,7 +154,7 @@ fn identity() -> [[u32; 24]; 24]
 pub fn keep_looped(
     net: &[u32],
     values: [u32; 26],
-    touched: [u32; 26],
+    active: [u32; 26],
     letter: &mut [u32],
     low: &mut [u32],
     high: &mut [u32],
@@ -164,8 +164,8 @@ pub fn keep_looped(
     count: u32,
 ) -> Kept
     requires { ⌜ Laid (netCircuit (now net)) (now net) × (count ≤ atPlace (now net) transistorsPlace) ⌝ }
-    requires { ⌜ Open k (now letter) (now low) (now high) (now index) used × AllUsed 26 values used × AllUsed 26 touched used × Bits k (held (now letter) (now low) (now high) used) values (firstNodeNumber + atPlace (now net) nodesPlace) ⌝ }
-    ensures { λ r. ⌜ (stopped (r .stop) ≡ false → KeptLooped (netCircuit (now (net .entry))) (atPlace (now (net .entry)) nodesPlace) k (held (now (letter .entry)) (now (low .entry)) (now (high .entry)) used) values touched count (now (letter .exit)) (now (low .exit)) (now (high .exit)) (now (index .exit)) (r .used) (r .entries)) × (stopped (r .stop) ≡ true → Crowded k (held (now (letter .entry)) (now (low .entry)) (now (high .entry)) used) (now (letter .exit)) (now (low .exit)) (now (high .exit)) (now (index .exit))) ⌝ }
+    requires { ⌜ Open k (now letter) (now low) (now high) (now index) used × AllUsed 26 values used × AllUsed 26 active used × Bits k (held (now letter) (now low) (now high) used) values (firstNodeNumber + atPlace (now net) nodesPlace) ⌝ }
+    ensures { λ r. ⌜ (stopped (r .stop) ≡ false → KeptLooped (netCircuit (now (net .entry))) (atPlace (now (net .entry)) nodesPlace) k (held (now (letter .entry)) (now (low .entry)) (now (high .entry)) used) values active count (now (letter .exit)) (now (low .exit)) (now (high .exit)) (now (index .exit)) (r .used) (r .entries)) × (stopped (r .stop) ≡ true → Crowded k (held (now (letter .entry)) (now (low .entry)) (now (high .entry)) used) (now (letter .exit)) (now (low .exit)) (now (high .exit)) (now (index .exit))) ⌝ }
 {
     let mut joined = identity();
     let mut out = [0u32; 64];
@@ -175,7 +175,7 @@ pub fn keep_looped(
         let p = keep(
             net,
             values,
-            touched,
+            active,
             &joined,
             letter,
             low,

@@ -1,36 +1,35 @@
 // What a step works out before its descents, as entries of the working table: the roots of a step (specs/Roots.antt).
-// Promise: values and next changes are those of the lent table; touched and kept functions are rules 2 and 3 at every pattern.
+// Promise: values and next changes are those of the lent table; seeds and kept functions are rules 2 and 3 at every pattern.
 // No room in the working table is an ordinary answer, which comes only where every row of its columns is used.
 ghost use mathlib.Core.Path.{_≡_};
-ghost use mathlib.Core.Bool.{true, false, cond};
-ghost use Prim.Native.Nat.{_+_, _<_};
-ghost use lib.ListN.{length, getD};
+ghost use mathlib.Core.Bool.{true, false};
+ghost use Prim.Native.Nat.{_+_};
+ghost use lib.ListN.{length};
 ghost use Rattle.format.specs.Circuit.{firstNodeNumber};
 ghost use Rattle.diagram.specs.Held.{held};
 ghost use Rattle.table.specs.Holds.{Sized};
 ghost use Rattle.table.specs.Stop.{stopped};
 ghost use Rattle.functions.specs.Open.{Legible, Open};
 ghost use Rattle.working.specs.Many.{AllUsed};
-ghost use Rattle.rules.specs.State.{isInner};
-ghost use Rattle.rules.specs.Group.{labelAt, groups};
 ghost use Rattle.net.specs.Net.{nodesPlace, at as atPlace, netCircuit};
 ghost use Rattle.net.specs.Laid.{Laid};
 ghost use Rattle.prepare.specs.Steps.{Bits};
 ghost use Rattle.prepare.specs.Roots.{NodeRoots, KeptRoots, Roots};
 
+pub mod group;
 pub mod keep;
 pub mod open;
-pub mod touch;
+pub mod seeds;
 
-use net::inner::is_inner;
-use net::roots::ALL_PENDING;
 use net::roots::ALL_ROOTS;
 use net::roots::KEPT;
-use net::roots::TOUCHED;
+use net::roots::PENDING;
+use net::roots::SEEDS;
 use open::keep_all;
+use seeds::active;
+use seeds::seed_all;
 use table::Stop;
 use table::stopped;
-use touch::touch_all;
 use working::begin;
 use working::many::bring_all;
 
@@ -52,35 +51,23 @@ fn nothing(stop: Stop) -> Prepared
     }
 }
 
-// The touched function of node n: that of its group, 0 for a node that is not inner.
-fn touched_of(net: &[u32], touched: [u32; 26], n: usize) -> u32
-    requires { ⌜ Laid (netCircuit (now net)) (now net) × (n < firstNodeNumber + atPlace (now net) nodesPlace) ⌝ }
-    ensures { λ r. ⌜ r ≡ cond (isInner (netCircuit (now (net .entry))) n) (getD touched (labelAt (groups (netCircuit (now (net .entry)))) n) 0) 0 ⌝ }
-{
-    if !is_inner(net, n as u32) {
-        return 0;
-    }
-    let g = net[net::GROUP + n] as usize;
-    touched[g]
-}
-
 // The roots of the nodes in their places.
 fn node_roots(
     net: &[u32],
     values: [u32; 26],
-    touched: [u32; 26],
+    seeds: [u32; 26],
     waiting: [u32; 26],
 ) -> [u32; ALL_ROOTS]
     requires { ⌜ Laid (netCircuit (now net)) (now net) ⌝ }
-    ensures { λ r. ⌜ NodeRoots (netCircuit (now (net .entry))) (atPlace (now (net .entry)) nodesPlace) values touched waiting (firstNodeNumber + atPlace (now (net .entry)) nodesPlace) r ⌝ }
+    ensures { λ r. ⌜ NodeRoots values seeds waiting (firstNodeNumber + atPlace (now (net .entry)) nodesPlace) r ⌝ }
 {
     let count = net[net::NODES] as usize + 2;
     let mut out = [0u32; ALL_ROOTS];
     let mut n = 0;
     while n < count {
         out[n] = values[n];
-        out[TOUCHED + n] = touched_of(net, touched, n);
-        out[ALL_PENDING + n] = waiting[n];
+        out[SEEDS + n] = seeds[n];
+        out[PENDING + n] = waiting[n];
         n += 1;
     }
     out
@@ -161,7 +148,7 @@ pub fn prepare(
         return nothing(why);
     }
     let waiting = w.entries;
-    let t = touch_all(
+    let t = seed_all(
         net,
         tletter,
         tlow,
@@ -182,14 +169,15 @@ pub fn prepare(
     if stopped(why) {
         return nothing(why);
     }
-    let touched = t.entries;
-    let q = keep_all(net, values, touched, letter, low, high, index, t.used, k);
+    let seeds = t.entries;
+    let marks = active(net, seeds);
+    let q = keep_all(net, values, marks, letter, low, high, index, t.used, k);
     let why = q.stop;
     if stopped(why) {
         return nothing(why);
     }
     let kept = q.entries;
-    let nodes = node_roots(net, values, touched, waiting);
+    let nodes = node_roots(net, values, seeds, waiting);
     Prepared {
         stop: Stop::Going,
         used: q.used,

@@ -1,7 +1,7 @@
 // Rule 3 past the last transistor that closes a loop of channels: each is kept wherever it conducts, and no matrix is needed.
 ghost use mathlib.Core.Path.{_≡_};
 ghost use mathlib.Core.Bool.{true, false};
-ghost use Prim.Native.Nat.{_+_, _<_, _≤_, min};
+ghost use Prim.Native.Nat.{_+_, _<_, min};
 ghost use lib.ListN.{getD};
 ghost use Rattle.format.specs.Circuit.{firstNodeNumber};
 ghost use Rattle.diagram.specs.Table.{numberAt};
@@ -13,20 +13,20 @@ ghost use Rattle.working.specs.Many.{AllUsed};
 ghost use Rattle.net.specs.Net.{nodesPlace, transistorsPlace, loopsPlace, at as atPlace, netTransistor, netCircuit};
 ghost use Rattle.net.specs.Laid.{Laid};
 ghost use Rattle.prepare.specs.Steps.{Bits, groupOf, openNumber, KeptRest, KeptAll};
+use crate::group::group_of;
 use crate::keep::Kept;
 use crate::keep::conducts;
 use crate::keep::keep_looped;
-use crate::touch::group_of;
 use functions::numbers::least;
 use table::Put;
 use table::Stop;
 use table::stopped;
 
-// Transistor i is kept where it conducts; a group that nothing touches needs no function.
+// Transistor i is kept where it conducts; a group that is not active needs no function.
 fn keep_open(
     net: &[u32],
     values: [u32; 26],
-    touched: [u32; 26],
+    active: [u32; 26],
     letter: &mut [u32],
     low: &mut [u32],
     high: &mut [u32],
@@ -36,11 +36,11 @@ fn keep_open(
     i: u32,
 ) -> Put
     requires { ⌜ Laid (netCircuit (now net)) (now net) × (i < atPlace (now net) transistorsPlace) ⌝ }
-    requires { ⌜ Open k (now letter) (now low) (now high) (now index) used × AllUsed 26 values used × AllUsed 26 touched used ⌝ }
-    ensures { λ r. ⌜ Grown k (held (now (letter .entry)) (now (low .entry)) (now (high .entry)) used) (λ p. openNumber (netTransistor (now (net .entry)) i .polarity) (getD touched (groupOf (netCircuit (now (net .entry))) (netTransistor (now (net .entry)) i)) 0) (numberAt k (held (now (letter .entry)) (now (low .entry)) (now (high .entry)) used) (getD values (netTransistor (now (net .entry)) i .gate) 0) p)) (now (letter .exit)) (now (low .exit)) (now (high .exit)) (now (index .exit)) r ⌝ }
+    requires { ⌜ Open k (now letter) (now low) (now high) (now index) used × AllUsed 26 values used × AllUsed 26 active used ⌝ }
+    ensures { λ r. ⌜ Grown k (held (now (letter .entry)) (now (low .entry)) (now (high .entry)) used) (λ p. openNumber (netTransistor (now (net .entry)) i .polarity) (getD active (groupOf (netCircuit (now (net .entry))) (netTransistor (now (net .entry)) i)) 0) (numberAt k (held (now (letter .entry)) (now (low .entry)) (now (high .entry)) used) (getD values (netTransistor (now (net .entry)) i .gate) 0) p)) (now (letter .exit)) (now (low .exit)) (now (high .exit)) (now (index .exit)) r ⌝ }
 {
     let g = group_of(net, i);
-    let e = touched[g];
+    let e = active[g];
     if e == 0 {
         return Put {
             stop: Stop::Going,
@@ -55,7 +55,7 @@ fn keep_open(
 fn keep_rest(
     net: &[u32],
     values: [u32; 26],
-    touched: [u32; 26],
+    active: [u32; 26],
     letter: &mut [u32],
     low: &mut [u32],
     high: &mut [u32],
@@ -66,15 +66,15 @@ fn keep_rest(
     kept: [u32; 64],
 ) -> Kept
     requires { ⌜ Laid (netCircuit (now net)) (now net) ⌝ }
-    requires { ⌜ Open k (now letter) (now low) (now high) (now index) used × AllUsed 26 values used × AllUsed 26 touched used × AllUsed 64 kept used × Bits k (held (now letter) (now low) (now high) used) values (firstNodeNumber + atPlace (now net) nodesPlace) ⌝ }
-    ensures { λ r. ⌜ (stopped (r .stop) ≡ false → KeptRest (netCircuit (now (net .entry))) (atPlace (now (net .entry)) nodesPlace) k (held (now (letter .entry)) (now (low .entry)) (now (high .entry)) used) values touched kept from (atPlace (now (net .entry)) transistorsPlace) (now (letter .exit)) (now (low .exit)) (now (high .exit)) (now (index .exit)) (r .used) (r .entries)) × (stopped (r .stop) ≡ true → Crowded k (held (now (letter .entry)) (now (low .entry)) (now (high .entry)) used) (now (letter .exit)) (now (low .exit)) (now (high .exit)) (now (index .exit))) ⌝ }
+    requires { ⌜ Open k (now letter) (now low) (now high) (now index) used × AllUsed 26 values used × AllUsed 26 active used × AllUsed 64 kept used × Bits k (held (now letter) (now low) (now high) used) values (firstNodeNumber + atPlace (now net) nodesPlace) ⌝ }
+    ensures { λ r. ⌜ (stopped (r .stop) ≡ false → KeptRest (netCircuit (now (net .entry))) (atPlace (now (net .entry)) nodesPlace) k (held (now (letter .entry)) (now (low .entry)) (now (high .entry)) used) values active kept from (atPlace (now (net .entry)) transistorsPlace) (now (letter .exit)) (now (low .exit)) (now (high .exit)) (now (index .exit)) (r .used) (r .entries)) × (stopped (r .stop) ≡ true → Crowded k (held (now (letter .entry)) (now (low .entry)) (now (high .entry)) used) (now (letter .exit)) (now (low .exit)) (now (high .exit)) (now (index .exit))) ⌝ }
 {
     let count = net[net::TRANSISTORS];
     let mut out = kept;
     let mut now = used;
     let mut i = from;
     while i < count {
-        let p = keep_open(net, values, touched, letter, low, high, index, now, k, i);
+        let p = keep_open(net, values, active, letter, low, high, index, now, k, i);
         let why = p.stop;
         if stopped(why) {
             return Kept {
@@ -98,7 +98,7 @@ fn keep_rest(
 pub fn keep_all(
     net: &[u32],
     values: [u32; 26],
-    touched: [u32; 26],
+    active: [u32; 26],
     letter: &mut [u32],
     low: &mut [u32],
     high: &mut [u32],
@@ -107,14 +107,14 @@ pub fn keep_all(
     k: u32,
 ) -> Kept
     requires { ⌜ Laid (netCircuit (now net)) (now net) ⌝ }
-    requires { ⌜ Open k (now letter) (now low) (now high) (now index) used × AllUsed 26 values used × AllUsed 26 touched used × Bits k (held (now letter) (now low) (now high) used) values (firstNodeNumber + atPlace (now net) nodesPlace) ⌝ }
-    ensures { λ r. ⌜ (stopped (r .stop) ≡ false → KeptAll (netCircuit (now (net .entry))) (atPlace (now (net .entry)) nodesPlace) k (held (now (letter .entry)) (now (low .entry)) (now (high .entry)) used) values touched (min (atPlace (now (net .entry)) loopsPlace) (atPlace (now (net .entry)) transistorsPlace)) (atPlace (now (net .entry)) transistorsPlace) (now (letter .exit)) (now (low .exit)) (now (high .exit)) (now (index .exit)) (r .used) (r .entries)) × (stopped (r .stop) ≡ true → Crowded k (held (now (letter .entry)) (now (low .entry)) (now (high .entry)) used) (now (letter .exit)) (now (low .exit)) (now (high .exit)) (now (index .exit))) ⌝ }
+    requires { ⌜ Open k (now letter) (now low) (now high) (now index) used × AllUsed 26 values used × AllUsed 26 active used × Bits k (held (now letter) (now low) (now high) used) values (firstNodeNumber + atPlace (now net) nodesPlace) ⌝ }
+    ensures { λ r. ⌜ (stopped (r .stop) ≡ false → KeptAll (netCircuit (now (net .entry))) (atPlace (now (net .entry)) nodesPlace) k (held (now (letter .entry)) (now (low .entry)) (now (high .entry)) used) values active (min (atPlace (now (net .entry)) loopsPlace) (atPlace (now (net .entry)) transistorsPlace)) (atPlace (now (net .entry)) transistorsPlace) (now (letter .exit)) (now (low .exit)) (now (high .exit)) (now (index .exit)) (r .used) (r .entries)) × (stopped (r .stop) ≡ true → Crowded k (held (now (letter .entry)) (now (low .entry)) (now (high .entry)) used) (now (letter .exit)) (now (low .exit)) (now (high .exit)) (now (index .exit))) ⌝ }
 {
     let limit = least(net[net::LOOPS], net[net::TRANSISTORS]);
     let a = keep_looped(
         net,
         values,
-        touched,
+        active,
         letter,
         low,
         high,
@@ -131,7 +131,7 @@ pub fn keep_all(
     keep_rest(
         net,
         values,
-        touched,
+        active,
         letter,
         low,
         high,

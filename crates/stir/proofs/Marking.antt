@@ -9,17 +9,18 @@ use lib.ListN.{length, getD, set, replicate, length-set, length-replicate}
 use lib.Seq.{getD-set-same, getD-set-other}
 use lib.Dec.{eqb}
 use borrow.Author.Tests.{eqb-true}
-use Rattle.lists.proofs.Cases.{eq-or-ne, and-left, and-right}
+use Rattle.lists.proofs.Cases.{bool-cases, eq-or-ne, and-left, and-right}
 use Rattle.format.specs.declared.Transistor.{Transistor}
 use Rattle.format.specs.Circuit.{Circuit, noTransistor}
 use Rattle.rules.specs.State.{isInner}
-use Rattle.rules.specs.Group.{labelAt, joined, groups, ofGroup, some}
+use Rattle.rules.specs.Label.{labelAt, joined, some}
+use Rattle.rules.specs.Group.{groups, ofGroup}
 use Rattle.net.specs.Net.{at, netTransistor, netCircuit}
 use Rattle.net.proofs.Laying.{transistors-length, transistor-at}
 use Rattle.plain.specs.Ready.{Net}
 use Rattle.plain.specs.Shown.{disturbedAt}
 use Rattle.prepare.specs.Steps.{groupOf}
-use Rattle.prepare.proofs.Reading.{laid-other}
+use Rattle.prepare.proofs.Reading.{laid-legal, group-is}
 use Rattle.stir.specs.Rest.{stirredFor}
 use Rattle.stir.specs.Marks.{GroupMarks, NodeMark, NodeMarks, Masked}
 
@@ -121,10 +122,15 @@ unstirred {net} {before} {after} {marks} cell s n none =
     let l : i < at net 1 = omega (arith, transistors-length net) in
     rw (transistor-at net i l)
     (both-false (ofGroup c n (netTransistor net i)) (disturbedAt c before after (netTransistor net i))
-    (λ d. laid-other net cell i l (labelAt (groups c) n)
-    (λ e.
-    let zero-one : 0 ≡ 1 = sym none ∙ ap (λ (m : ℕ). getD marks m 0) e ∙ s .stir i l d in
-    omega arith))))
+    (λ d.
+    ⊎-elim
+    (λ (of : ofGroup c n (netTransistor net i) ≡ true).
+    let same : labelAt (groups c) n ≡ groupOf c (netTransistor net i) =
+    group-is c (laid-legal net cell) i h n (rw (transistor-at net i l) of) ∙ ap (groupOf c) (transistor-at net i l) in
+    let zero-one : 0 ≡ 1 = sym none ∙ ap (λ (m : ℕ). getD marks m 0) same ∙ s .stir i l d in
+    absurd (omega arith))
+    (λ (of : ofGroup c n (netTransistor net i) ≡ false). of)
+    (bool-cases (ofGroup c n (netTransistor net i))))))
 
 pub naming-done : {net before after groups marks : List ℕ} {all : Bool} {i : ℕ} → Net net → GroupMarks net before after groups → Naming net groups all i marks → 2 + at net 0 ≤ i → NodeMarks net before after all marks
 naming-done {net} {groups = names} {marks} {all} cell g s le =

@@ -8,7 +8,8 @@ use lib.ListN.{length, getD}
 use lib.Dec.{eqb}
 use Rattle.format.specs.declared.Transistor.{Transistor}
 use Rattle.rules.specs.State.{isInner}
-use Rattle.rules.specs.Group.{labelAt, groups, inGroup}
+use Rattle.rules.specs.Label.{labelAt}
+use Rattle.rules.specs.Group.{groups, inGroup}
 use Rattle.net.specs.Net.{transistorsPlace, at, netTransistor, netCircuit}
 use Rattle.plain.specs.Ready.{Noded}
 use Rattle.plain.specs.Shown.{disturbedAt}

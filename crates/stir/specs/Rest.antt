@@ -7,7 +7,8 @@ use Rattle.format.specs.declared.Transistor.{Transistor}
 use Rattle.format.specs.Circuit.{Circuit}
 use Rattle.diagram.specs.Table.{Table, never, numberAt}
 use Rattle.rules.specs.State.{isInner}
-use Rattle.rules.specs.Group.{ofGroup, some}
+use Rattle.rules.specs.Label.{some}
+use Rattle.rules.specs.Group.{ofGroup}
 use Rattle.plain.specs.Shown.{disturbedAt}
 use Rattle.plain.specs.Settle.{pendingAfter}
 

@@ -1,7 +1,7 @@
 // Which nodes a step between two lists of entries can reconsider.
 use net::inner::is_inner;
 use plain::touch::disturbed;
-use prepare::touch::group_of;
+use prepare::group::group_of;
 ghost use mathlib.Core.Path.{_≡_};
 ghost use mathlib.Core.Bool.{cond};
 ghost use Prim.Native.Nat.{_+_, _<_};

@@ -1,4 +1,4 @@
--- `roots_for`: the places before j hold the roots; then those of the node.
+-- `roots_for`: the places before j hold the roots; then the node's pending change.
 use mathlib.Core.Path.{_≡_, refl, _∙_}
 use mathlib.Core.List.{List}
 use Prim.Native.Nat.{ℕ, _+_, _-_, _≤_}
@@ -10,22 +10,21 @@ use Rattle.descent.proofs.Fill.{FilledTo, filled-none, filled-next}
 use Rattle.attempt.specs.Places.{RootsFor}
 use Rattle.attempt.proofs.roots_for.Statement.{statement}
 use Rattle.attempt.proofs.roots_for.Tie as tie
-use Rattle.net.specs.Roots.{leafLength, touchedPlace, pendingPlace, rootsLength, allPendingPlace}
+use Rattle.net.specs.Roots.{pendingPlace, rootsLength}
 
--- the last two places written
-placed : (roots out : List ℕ) (n : ℕ) → FilledTo (λ (i : ℕ). getD roots i 0) rootsLength leafLength out → RootsFor roots n (set (set out touchedPlace (getD roots (touchedPlace + n) 0)) pendingPlace (getD roots (allPendingPlace + n) 0))
+-- the last place written
+placed : (roots out : List ℕ) (n : ℕ) → FilledTo (λ (i : ℕ). getD roots i 0) rootsLength pendingPlace out → RootsFor roots n (set out pendingPlace (getD roots (pendingPlace + n) 0))
 placed roots out n h = record {
   long = simp length-set (h .long);
-  leaf = λ j l. getD-set-other (set out touchedPlace (getD roots (touchedPlace + n) 0)) pendingPlace j (getD roots (allPendingPlace + n) 0) 0 (λ e. omega arith) ∙ getD-set-other out touchedPlace j (getD roots (touchedPlace + n) 0) 0 (λ e. omega arith) ∙ h .is j l;
-  touched = getD-set-other (set out touchedPlace (getD roots (touchedPlace + n) 0)) pendingPlace touchedPlace (getD roots (allPendingPlace + n) 0) 0 (λ e. omega arith) ∙ getD-set-same out touchedPlace (getD roots (touchedPlace + n) 0) 0 (omega (arith, h .long));
-  pending = getD-set-same (set out touchedPlace (getD roots (touchedPlace + n) 0)) pendingPlace (getD roots (allPendingPlace + n) 0) 0 (simp length-set (omega (arith, h .long)));
+  first = λ j l. getD-set-other out pendingPlace j (getD roots (pendingPlace + n) 0) 0 (λ e. omega arith) ∙ h .is j l;
+  pending = getD-set-same out pendingPlace (getD roots (pendingPlace + n) 0) 0 (omega (arith, h .long));
 }
 
 abbrev Inv-loop : tie.InvT-loop
-Inv-loop n roots out₀ j₀ out j = (j ≤ leafLength) × FilledTo (λ (i : ℕ). getD roots i 0) rootsLength j out
+Inv-loop n roots out₀ j₀ out j = (j ≤ pendingPlace) × FilledTo (λ (i : ℕ). getD roots i 0) rootsLength j out
 
 abbrev μ-loop : tie.MeasureT-loop
-μ-loop n roots out₀ j₀ out j = leafLength - j
+μ-loop n roots out₀ j₀ out j = pendingPlace - j
 
 loop-holds : tie.Need-loop-holds Inv-loop μ-loop
 loop-holds c = (omega arith, filled-none _ rootsLength _ refl)
@@ -63,21 +62,9 @@ array-read-out-2 c = search needs
 array-write-out-2 : tie.Need-array-write-out-2 Inv-loop μ-loop
 array-write-out-2 c = search needs
 
-add-out-2 : tie.Need-add-out-2 Inv-loop μ-loop
-add-out-2 c = search needs
-
-mul-out-4 : tie.Need-mul-out-4 Inv-loop μ-loop
-mul-out-4 c = search needs
-
-array-read-out-3 : tie.Need-array-read-out-3 Inv-loop μ-loop
-array-read-out-3 c = search needs
-
-array-write-out-3 : tie.Need-array-write-out-3 Inv-loop μ-loop
-array-write-out-3 c = search needs
-
 returns : tie.Need-returns Inv-loop μ-loop
 returns c =
-    let z : c .before .loop .j ≡ touchedPlace = omega (arith, c .before .loop .inv .0, c .loop-test .left) in
+    let z : c .before .loop .j ≡ pendingPlace = omega (arith, c .before .loop .inv .0, c .loop-test .left) in
     placed (c .before .before .args .t1) (c .before .loop .out) (c .before .before .args .n) (rw z at (c .before .loop .inv .1))
 
 pub roots-for-spec : {M : Type 1} → statement M
@@ -98,8 +85,4 @@ roots-for-spec =
     mul-out-3
     array-read-out-2
     array-write-out-2
-    add-out-2
-    mul-out-4
-    array-read-out-3
-    array-write-out-3
     returns)

@@ -10,10 +10,10 @@ use Rattle.descent.proofs.live.keep.Statement.{statement}
 use Rattle.descent.proofs.live.keep.Tie as tie
 
 abbrev Inv-loop : tie.InvT-loop
-Inv-loop net roots marks live count out₀ list₀ total₀ i₀ out list total i = (i ≤ count) × FilledAt (λ (j : ℕ). cond (matters net marks j) (getD roots j 0) 0) live count i out × KeptTo (λ (j : ℕ). cond (matters net marks j) (getD roots j 0) 0) live i list total
+Inv-loop net roots marks sole live count out₀ list₀ total₀ i₀ out list total i = (i ≤ count) × FilledAt (λ (j : ℕ). cond (matters net marks sole j) (getD roots j 0) 0) live count i out × KeptTo (λ (j : ℕ). cond (matters net marks sole j) (getD roots j 0) 0) live i list total
 
 abbrev μ-loop : tie.MeasureT-loop
-μ-loop net roots marks live count out₀ list₀ total₀ i₀ out list total i = count - i
+μ-loop net roots marks sole live count out₀ list₀ total₀ i₀ out list total i = count - i
 
 loop-holds : tie.Need-loop-holds Inv-loop μ-loop
 loop-holds c = (omega arith, at-none _ (c .before .pre .1 .1), kept-none _ _ _ (c .before .pre .1 .2))
@@ -58,7 +58,7 @@ loop-again : tie.Need-loop-again Inv-loop μ-loop
 loop-again c = (omega arith, at-next (c .before .before .before .before .before .before .loop .inv .1) (c .before .before .before .before .before .before .before .before .pre .1 .0 .places) (c .before .before .before .before .before .loop-test .taken) _ (c .before .before .kept-root .ensures), kept-next (c .before .before .before .before .before .before .loop .inv .2) (c .before .before .before .before .before .before .before .before .pre .1 .0 .places) (c .before .before .before .before .before .loop-test .taken) _ (c .before .before .kept-root .ensures) (c .note-place .ensures .0) (c .note-place .ensures .1))
 
 returns : tie.Need-returns Inv-loop μ-loop
-returns c = (keep-selected (c .before .before .before .pre .1 .0) _ _ (c .before .loop .inv .1) (c .loop-test .left), keep-live (c .before .before .before .pre .1 .0) _ _ (c .before .loop .inv .1) (c .loop-test .left) (c .before .loop .inv .2) (c .before .loop .inv .0))
+returns c = (keep-selected (c .before .before .before .pre .1 .0) _ _ _ (c .before .loop .inv .1) (c .loop-test .left), keep-live (c .before .before .before .pre .1 .0) _ _ _ (c .before .loop .inv .1) (c .loop-test .left) (c .before .loop .inv .2) (c .before .loop .inv .0))
 
 pub keep-spec : {M : Type 1} → statement M
 keep-spec =

@@ -7,7 +7,7 @@ use Rattle.descent.proofs.live.kept_root.Statement.{statement}
 use Rattle.descent.proofs.live.kept_root.Tie as tie
 
 returns : tie.Need-returns
-returns c = sym (cond-zero (matters (c .before .before .args .net .now) (c .before .before .args .marks .now) (c .before .before .args .j)) _ (c .if1 .taken))
+returns c = sym (cond-zero (matters (c .before .before .args .net .now) (c .before .before .args .marks .now) (c .before .before .args .sole) (c .before .before .args .j)) _ (c .if1 .taken))
 
 matters-requires : tie.Need-matters-requires
 matters-requires c κs = search needs

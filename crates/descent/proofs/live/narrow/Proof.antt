@@ -1,5 +1,5 @@
 -- `narrow`: the same roots where none has become entry 0, else those that matter to the piece.
-use borrow.Author.Needs.{needs}
+use native.Mathlib.Omega.{arith}
 use Rattle.descent.proofs.Narrow.{narrowed-piece, narrowed-same}
 use Rattle.descent.proofs.live.narrow.Statement.{statement}
 use Rattle.descent.proofs.live.narrow.Tie as tie
@@ -16,11 +16,16 @@ returns c = (narrowed-same (c .copy .ensures .0) (c .before .before .before .bef
 piece-requires : tie.Need-piece-requires
 piece-requires c κs = c .before .before .before .pre .0
 
+sole-seed-requires : tie.Need-sole-seed-requires
+sole-seed-requires c κs = let s = c .before .before .before .before in omega (arith, s .pre .0 .node .most, s .pre .0 .cell .within .nodes)
+
 keep-requires : tie.Need-keep-requires
-keep-requires c κs = (c .before .before .before .before .before .before .before .pre .0 .cell, c .before .before .before .before .before .before .before .pre .1)
+keep-requires c κs = (c .before .before .before .before .before .before .before .before .pre .0 .cell, c .before .before .before .before .before .before .before .before .pre .1)
 
 returns-2 : tie.Need-returns-2
-returns-2 c = (narrowed-piece (c .before .before .before .before .before .before .before .before .pre .0) (c .before .before .before .before .piece .ensures) (c .keep .ensures .0), c .keep .ensures .1)
+returns-2 c =
+    let s = c .before .before .before .before .before .before .before .before .before in
+    (narrowed-piece (s .pre .0) (c .before .before .before .before .before .piece .ensures) (c .before .before .before .before .sole-seed .ensures) (c .keep .ensures .0), c .keep .ensures .1)
 
 pub narrow-spec : {M : Type 1} → statement M
-narrow-spec = tie.close (tie.spec some-zero-requires copy-requires returns piece-requires keep-requires returns-2)
+narrow-spec = tie.close (tie.spec some-zero-requires copy-requires returns piece-requires sole-seed-requires keep-requires returns-2)

@@ -27,7 +27,7 @@ array-read-x : tie.Need-array-read-x Inv-loop μ-loop
 array-read-x c = omega (arith, found-few (c .before .loop .inv .found))
 
 spread-requires : tie.Need-spread-requires Inv-loop μ-loop
-spread-requires c κs = (c .before .before .before .before .before .before .before .before .pre .cell, (c .before .before .before .loop .inv .found .small _ (c .before .before .before .loop .inv .found .marked (c .before .before .before .loop .head) (c .before .before .loop-test .taken)), c .before .before .before .loop .inv .found))
+spread-requires c κs = (c .before .before .before .before .before .before .before .before .pre .cell, (c .before .before .before .loop .inv .found .marked (c .before .before .before .loop .head) (c .before .before .loop-test .taken), c .before .before .before .loop .inv .found))
 
 add-head : tie.Need-add-head Inv-loop μ-loop
 add-head c = record { fits = omega (arith, found-few (c .before .before .before .before .loop .inv .found)) }

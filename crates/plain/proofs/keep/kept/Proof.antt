@@ -3,6 +3,7 @@ use Prim.Native.Nat.{ℕ}
 use mathlib.Core.Path.{_∙_}
 use lib.ListN.{replicate, length-replicate}
 use Rattle.plain.proofs.Leaves.{own-labels, leaf-kept}
+use Rattle.plain.proofs.Pieces.{pieces-parted}
 use borrow.Author.Needs.{needs}
 use Rattle.plain.proofs.keep.kept.Statement.{statement}
 use Rattle.plain.proofs.keep.kept.Tie as tie
@@ -37,8 +38,10 @@ returns : tie.Need-returns
 returns c =
     let s = c .before .before .before .before .before .before .before .before .before .before .before .before .before in
     let copy = c .before .before .before .before .before .before .before .before .before .copy in
-    let all = c .before .before .keep-all in
-    leaf-kept (s .args .net .now) (s .args .values .now) (copy .last .0) (all .last .1 .1 .0) (all .last .1 .1 .1 .0) (copy .ensures) (all .ensures)
+    let all = c .before .before .keep-all in (
+      leaf-kept (s .args .net .now) (s .args .values .now) (copy .last .0) (all .last .1 .1 .0) (all .last .1 .1 .1 .0) (copy .ensures) (all .ensures),
+      pieces-parted (s .args .net .now) (s .args .values .now) (all .last .1 .1 .1 .0) (search needs) (all .ensures),
+    )
 
 pub kept-spec : {M : Type 1} → statement M
 kept-spec =

@@ -3,7 +3,7 @@ use mathlib.Core.Path.{sym, _∙_}
 use Prim.Native.Nat.{_<_}
 use native.Mathlib.Omega.{arith}
 use borrow.Author.Needs.{needs}
-use Rattle.plain.proofs.Arms.{arms-length, arms-at, arms-within}
+use Rattle.net.proofs.NodeArms.{arms-length, arms-at, arms-within}
 use Rattle.plain.proofs.reads.arm_at.Statement.{statement}
 use Rattle.plain.proofs.reads.arm_at.Tie as tie
 

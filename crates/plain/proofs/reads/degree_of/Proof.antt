@@ -1,7 +1,7 @@
 -- `degree_of` reads the count at its place.
 use mathlib.Core.Path.{sym, _∙_}
 use borrow.Author.Needs.{needs}
-use Rattle.plain.proofs.Arms.{arms-length}
+use Rattle.net.proofs.NodeArms.{arms-length}
 use Rattle.plain.proofs.reads.degree_of.Statement.{statement}
 use Rattle.plain.proofs.reads.degree_of.Tie as tie
 

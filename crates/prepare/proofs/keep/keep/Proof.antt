@@ -1,4 +1,4 @@
--- `keep` meets its contract: touched, conducting, not joined. Assumes nothing.
+-- `keep` meets its contract: of an active group, conducting, not joined. Assumes nothing.
 use borrow.Author.Needs.{needs}
 use native.Mathlib.Omega.{arith}
 use mathlib.Core.Path.{sym, _∙_}
@@ -6,7 +6,7 @@ use Prim.Native.Nat.{_-_}
 use lib.ListN.{getD}
 use borrow.Author.Tests.{not-true, not-false}
 use Rattle.working.specs.Many.{cell}
-use Rattle.rules.specs.Group.{betweenInner}
+use Rattle.rules.specs.Label.{betweenInner}
 use Rattle.net.specs.Net.{netTransistor, netCircuit}
 use Rattle.working.proofs.Grow.{grown-full, grown-then, grown-within, grown-entry}
 use Rattle.prepare.proofs.Reading.{laid-few, laid-first, laid-second, laid-between}

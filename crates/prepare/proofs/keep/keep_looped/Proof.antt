@@ -21,10 +21,10 @@ lt-within : {i count n : ℕ} → i < count → count ≤ n → i < n
 lt-within a b = omega (arith, a, b)
 
 abbrev Inv-loop : tie.InvT-loop
-Inv-loop net values touched letter₀ low₀ high₀ index₀ used k count joined₀ out₀ now₀ i₀ letter low high index joined out now i = Going (netCircuit net) (at net 0) k (held letter₀ low₀ high₀ used) values touched count letter₀ low₀ high₀ index₀ letter low high index now out joined i
+Inv-loop net values active letter₀ low₀ high₀ index₀ used k count joined₀ out₀ now₀ i₀ letter low high index joined out now i = Going (netCircuit net) (at net 0) k (held letter₀ low₀ high₀ used) values active count letter₀ low₀ high₀ index₀ letter low high index now out joined i
 
 abbrev μ-loop : tie.MeasureT-loop
-μ-loop net values touched letter₀ low₀ high₀ index₀ used k count joined₀ out₀ now₀ i₀ letter low high index joined out now i = count - i
+μ-loop net values active letter₀ low₀ high₀ index₀ used k count joined₀ out₀ now₀ i₀ letter low high index joined out now i = count - i
 
 identity-requires : tie.Need-identity-requires Inv-loop μ-loop
 identity-requires c κs = search needs

@@ -4,7 +4,7 @@ use mathlib.Core.Path.{sym, _∙_}
 use Prim.Native.Nat.{_-_}
 use borrow.Author.Tests.{not-true, not-false}
 use Rattle.working.proofs.Grow.{open-three}
-use Rattle.rules.specs.Group.{betweenInner}
+use Rattle.rules.specs.Label.{betweenInner}
 use Rattle.net.specs.Net.{netTransistor, netCircuit}
 use Rattle.prepare.proofs.Reading.{laid-few, laid-first, laid-second, laid-between}
 use Rattle.prepare.proofs.Keeping.{link-nowhere, link-driven, link-between}

@@ -1,4 +1,4 @@
--- `keep_open` meets its contract: where it conducts, unless nothing touches its group.
+-- `keep_open` meets its contract: where it conducts, unless its group is not active.
 use native.Mathlib.Omega.{arith}
 use lib.ListN.{getD}
 use Rattle.net.specs.Net.{netTransistor}

@@ -16,10 +16,10 @@ use Rattle.prepare.proofs.open.keep_rest.Statement.{statement}
 use Rattle.prepare.proofs.open.keep_rest.Tie as tie
 
 abbrev Inv-loop : tie.InvT-loop
-Inv-loop net values touched letter₀ low₀ high₀ index₀ used k from count out₀ now₀ i₀ letter low high index out now i = Resting (netCircuit net) (at net 0) k (held letter₀ low₀ high₀ used) values touched out₀ from letter₀ low₀ high₀ index₀ letter low high index now out i
+Inv-loop net values active letter₀ low₀ high₀ index₀ used k from count out₀ now₀ i₀ letter low high index out now i = Resting (netCircuit net) (at net 0) k (held letter₀ low₀ high₀ used) values active out₀ from letter₀ low₀ high₀ index₀ letter low high index now out i
 
 abbrev μ-loop : tie.MeasureT-loop
-μ-loop net values touched letter₀ low₀ high₀ index₀ used k from count out₀ now₀ i₀ letter low high index out now i = count - i
+μ-loop net values active letter₀ low₀ high₀ index₀ used k from count out₀ now₀ i₀ letter low high index out now i = count - i
 
 shared-slice-read-count : tie.Need-shared-slice-read-count Inv-loop μ-loop
 shared-slice-read-count c = omega (arith, c .before .before .before .before .before .before .pre .0 .long)

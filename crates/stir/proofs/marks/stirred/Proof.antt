@@ -6,7 +6,7 @@ use borrow.Author.Needs.{needs}
 use Rattle.net.specs.Net.{netCircuit}
 use Rattle.net.proofs.Laying.{transistors-length, transistor-at}
 use Rattle.plain.specs.Shown.{disturbedAt}
-use Rattle.plain.proofs.Groups.{SomeFrom, some-hit, some-next, some-ends}
+use Rattle.plain.proofs.Pieces.{SomeFrom, some-hit, some-next, some-ends}
 use Rattle.stir.proofs.marks.stirred.Statement.{statement}
 use Rattle.stir.proofs.marks.stirred.Tie as tie
 
