@@ -11,6 +11,7 @@ pub mod draft;
 pub mod functions;
 pub mod generate;
 pub mod listing;
+pub mod other_tool;
 pub mod program;
 pub mod random;
 pub mod refusal;

@@ -7,7 +7,8 @@ use comparison::generate::live::{self, Size};
 use comparison::random::Random;
 use comparison::simulator::arithmetic::{Ohms, CEILING};
 use comparison::simulator::circuit::Circuit;
-use comparison::simulator::pattern::State;
+use comparison::simulator::pattern::{next_change, State};
+use comparison::simulator::reach::Reach;
 use comparison::simulator::walk::{Ends, Walk};
 use std::collections::BTreeMap;
 
@@ -19,69 +20,151 @@ impl Seen {
     fn count(&mut self, what: &'static str, happened: bool) {
         *self.0.entry(what).or_default() += u64::from(happened);
     }
-}
 
-/// Runs one pattern of a cell for some steps and counts what happens.
-fn watch(seen: &mut Seen, cell: &Cell, pattern: usize) {
-    let circuit = Circuit::new(cell);
-    let mut state = State::start(&circuit, pattern);
-    look(seen, &circuit, &state, &state, 0, true);
-    let mut now = 0;
-    for _ in 0..30 {
-        let scheduled = cell.schedule.iter().map(|entry| entry.time);
-        let pending = state.next.iter().copied();
-        let times = pending.chain(scheduled);
-        let Some(time) = times.filter(|&time| time > now && time != NEVER).min() else {
-            seen.count("finished", true);
-            break;
-        };
-        let before = state.clone();
-        state.step(&circuit, pattern, time);
-        now = time;
-        seen.count("step", true);
-        look(seen, &circuit, &before, &state, time, false);
+    /// Fails unless each thing happened often.
+    fn expect(&self) {
+        for (what, count) in &self.0 {
+            println!("{what}: {count}");
+        }
+        for (what, count) in &self.0 {
+            assert!(*count >= 30, "{what}: {count}");
+        }
     }
 }
 
-fn look(seen: &mut Seen, circuit: &Circuit, before: &State, after: &State, time: u32, start: bool) {
-    let inner: Vec<usize> = circuit
-        .records()
-        .filter(|&node| circuit.is_inner(node))
-        .collect();
-    let flipped = |node: usize| before.values[node] != after.values[node];
-    let flips = inner.iter().filter(|&&node| flipped(node)).count();
+/// One pattern of a cell before and after its start or a step.
+struct Moment<'a> {
+    circuit: &'a Circuit<'a>,
+    before: &'a State,
+    after: &'a State,
+    time: u32,
+}
+
+impl Moment<'_> {
+    fn inner(&self) -> impl Iterator<Item = usize> + '_ {
+        let nodes = self.circuit.records();
+        nodes.filter(|&node| self.circuit.is_inner(node))
+    }
+
+    /// The node changed its value. None does in a start.
+    fn flipped(&self, node: usize) -> bool {
+        self.before.values[node] != self.after.values[node]
+    }
+
+    fn reach(&self) -> Reach<'_> {
+        Reach {
+            circuit: self.circuit,
+            before: &self.before.values,
+            after: &self.after.values,
+        }
+    }
+
+    /// The nodes that a start or step considers.
+    fn considered(&self) -> Vec<bool> {
+        match self.time {
+            0 => vec![true; self.circuit.nodes()],
+            _ => self.reach().reconsidered(),
+        }
+    }
+}
+
+/// Starts one pattern of a cell and takes some steps; says whether it then is finished.
+fn run(cell: &Cell, pattern: usize, mut look: impl FnMut(&Moment)) -> bool {
+    let circuit = &Circuit::new(cell);
+    let mut state = State::start(circuit, pattern);
+    let mut now = 0;
+    let mut look = |before: &State, after: &State, time| {
+        look(&Moment {
+            circuit,
+            before,
+            after,
+            time,
+        })
+    };
+    look(&state, &state, now);
+    for _ in 0..30 {
+        let scheduled = cell.schedule.iter().map(|entry| entry.time);
+        let times = state.next.iter().copied().chain(scheduled);
+        let Some(time) = times.filter(|&time| time > now && time != NEVER).min() else {
+            return true;
+        };
+        let before = state.clone();
+        state.step(circuit, pattern, time);
+        look(&before, &state, time);
+        now = time;
+    }
+    false
+}
+
+/// Counts what happens in a start or step.
+fn look(seen: &mut Seen, moment: &Moment) {
+    let &Moment {
+        circuit,
+        after,
+        time,
+        ..
+    } = moment;
+    seen.count("step", time > 0);
+    let flips = moment.inner().filter(|&node| moment.flipped(node)).count();
     seen.count("several nodes flip", flips > 1);
     let kept = circuit.kept(&after.values);
     let conducts = |transistor| circuit.conducts(transistor, &after.values);
     let broken = (0..kept.len()).any(|transistor| conducts(transistor) && !kept[transistor]);
     seen.count("loop broken", broken);
-    let changed: Vec<bool> = (0..circuit.nodes()).map(flipped).collect();
-    let touched = circuit.touched(&changed);
+    look_at_reach(seen, moment);
     let walk = Walk {
         circuit,
         values: &after.values,
         kept: &kept,
     };
-    for &node in &inner {
-        let present = after.values[node];
-        if !start && !touched[circuit.group(node)] {
-            let pends = after.next[node] != NEVER;
-            seen.count("untouched keeps its next change", pends);
-            let sum = walk.sum(node, None);
-            seen.count(
-                "untouched though unstable",
-                !pends && sum.value(present) != present,
-            );
-            continue;
+    let considered = moment.considered();
+    // As if channels led on that do not conduct.
+    let linked = moment.reach().along(|_| true);
+    for node in moment.inner() {
+        match considered[node] {
+            true => look_at(seen, &walk, moment, node),
+            false => look_past(seen, &walk, moment, node, linked[node]),
         }
-        look_at(seen, &walk, before, after, node, time);
     }
 }
 
-/// One node of a touched group.
-fn look_at(seen: &mut Seen, walk: &Walk, before: &State, after: &State, node: usize, time: u32) {
+/// What a step disturbs, and what leads there.
+fn look_at_reach(seen: &mut Seen, moment: &Moment) {
+    let reach = moment.reach();
+    let circuit = moment.circuit;
+    for transistor in 0..circuit.cell.transistors.len() {
+        let ends = circuit.ends(transistor);
+        let inner = ends.iter().filter(|&&end| circuit.is_inner(end)).count();
+        let [before, after] = [reach.before, reach.after]
+            .map(|values| inner == 2 && circuit.conducts(transistor, values));
+        seen.count("leads only before", before && !after);
+        seen.count("leads only after", !before && after);
+        let off = inner > 0 && !reach.conducts(transistor);
+        seen.count("disturbed and off", off && reach.is_disturbed(transistor));
+    }
+}
+
+/// A node that is not reconsidered; linked, if channels that may not conduct lead from
+/// it to an end of a disturbed transistor.
+fn look_past(seen: &mut Seen, walk: &Walk, moment: &Moment, node: usize, linked: bool) {
+    let present = moment.after.values[node];
+    let next = moment.after.next[node];
+    let pends = next != NEVER;
+    let unstable = walk.sum(node, None).value(present) != present;
+    seen.count("kept next change", pends);
+    seen.count("not reconsidered though unstable", !pends && unstable);
+    let flipped = moment.flipped(node);
+    seen.count("flips and is not reconsidered", flipped);
+    seen.count("cut off", linked);
+    seen.count("cut off with a next change", linked && pends);
+    let anew = next_change(walk, node, next, moment.time);
+    seen.count("cut off and would be changed", linked && anew != next);
+}
+
+/// A node that is considered.
+fn look_at(seen: &mut Seen, walk: &Walk, moment: &Moment, node: usize) {
     let sum = walk.sum(node, None);
-    let present = after.values[node];
+    let present = moment.after.values[node];
     let driven = sum.is_driven();
     seen.count("drive is equal", driven && sum.high == sum.low);
     let charged = sum.charge_high > 0 && sum.charge_low > 0;
@@ -93,14 +176,17 @@ fn look_at(seen: &mut Seen, walk: &Walk, before: &State, after: &State, node: us
     let both = sum.high != Ohms::Infinite && sum.low != Ohms::Infinite;
     seen.count("both sides finite", both);
     let new = sum.value(present);
-    let flipped = before.values[node] != present;
-    let pending = if flipped { NEVER } else { before.next[node] };
+    let flipped = moment.flipped(node);
+    let pending = match flipped {
+        true => NEVER,
+        false => moment.before.next[node],
+    };
     if new == present {
         seen.count("change called off", pending != NEVER);
         return;
     }
     seen.count("flips again", flipped);
-    let due = u64::from(time) + look_at_delay(seen, walk, node, new);
+    let due = u64::from(moment.time) + look_at_delay(seen, walk, node, new);
     let horizon = u64::from(walk.circuit.cell.horizon);
     seen.count("earlier change stays", u64::from(pending) < due);
     seen.count(
@@ -132,23 +218,54 @@ fn look_at_delay(seen: &mut Seen, walk: &Walk, node: usize, new: bool) -> u64 {
     load.delay()
 }
 
-#[test]
-fn every_rule_acts() {
+/// Cells as the calls on a run are compared on, each with one of its patterns.
+fn cells() -> impl Iterator<Item = (Cell, usize)> {
     let mut random = Random::new(21);
-    let mut seen = Seen::default();
-    for _ in 0..6_000 {
+    (0..6_000).map(move |_| {
         let size = random.pick(&[Size::Small, Size::Small, Size::Middle, Size::Dense]);
         let letters = random.between(0, 5);
         let cell = live::cell(&mut random, size, letters);
-        let pattern = random.index(1 << letters);
-        watch(&mut seen, &cell, pattern);
+        (cell, random.index(1 << letters))
+    })
+}
+
+#[test]
+fn every_rule_acts() {
+    let mut seen = Seen::default();
+    for (cell, pattern) in cells() {
+        let finished = run(&cell, pattern, |moment| look(&mut seen, moment));
+        seen.count("finished", finished);
         seen.count("dense cell", cell.nodes.len() > 16);
         seen.count("most transistors", cell.transistors.len() == 64);
     }
-    for (what, count) in &seen.0 {
-        println!("{what}: {count}");
+    seen.expect();
+}
+
+/// The same nodes are reconsidered whichever channels lead on: those that conduct before
+/// or after, only those after, only those before, or only the kept ones.
+#[test]
+fn same_reach_by_channels_after_alone() {
+    let mut seen = Seen::default();
+    for (cell, pattern) in cells() {
+        run(&cell, pattern, |moment| {
+            let reach = moment.reach();
+            let &Moment { circuit, .. } = moment;
+            let reconsidered = reach.reconsidered();
+            let kept = circuit.kept(reach.after);
+            let after = reach.along(|transistor| circuit.conducts(transistor, reach.after));
+            let before = reach.along(|transistor| circuit.conducts(transistor, reach.before));
+            assert_eq!(reconsidered, after, "{cell:?}");
+            assert_eq!(reconsidered, before, "{cell:?}");
+            assert_eq!(reconsidered, reach.along(|transistor| kept[transistor]));
+            let linked = reach.along(|_| true);
+            look_at_reach(&mut seen, moment);
+            for node in moment.inner() {
+                let pends = moment.after.next[node] != NEVER;
+                seen.count("reconsidered", reconsidered[node]);
+                let cut_off = linked[node] && !reconsidered[node];
+                seen.count("cut off with a next change", cut_off && pends);
+            }
+        });
     }
-    for (what, count) in &seen.0 {
-        assert!(*count >= 30, "{what}: {count}");
-    }
+    seen.expect();
 }

@@ -253,35 +253,6 @@ fn loops() {
     }
 }
 
-/// A group is touched through gates and inputs, and not by a flip of its own.
-#[test]
-fn touching() {
-    let cell = cell(
-        0,
-        &[
-            input(Source::Low),
-            inner(1, Source::Low),
-            inner(1, Source::Low),
-            inner(1, Source::Low),
-        ],
-        &[n(0, [3, 4], 1), n(5, [2, 3], 1), n(3, [0, 5], 1)],
-        &[],
-    );
-    let circuit = Circuit::new(&cell);
-    assert_eq!(circuit.group(3), circuit.group(4));
-    assert_ne!(circuit.group(4), circuit.group(5));
-    let touched = |node: usize| {
-        let mut changed = [false; 6];
-        changed[node] = true;
-        let touched = circuit.touched(&changed);
-        [3, 5].map(|node| touched[circuit.group(node)])
-    };
-    assert_eq!(touched(2), [true, false]);
-    assert_eq!(touched(3), [false, true]);
-    assert_eq!(touched(4), [false, false]);
-    assert_eq!(touched(5), [true, false]);
-}
-
 /// Case (g): the used counts of the inverter, step by step and in one run.
 #[test]
 fn used_counts() {

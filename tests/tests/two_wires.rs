@@ -1,22 +1,14 @@
 //! The sample cell `two-wires-at-once`: what a tool lists that flips the wires of a
 //! picosecond one by one, and how it differs from the rules.
 
-use comparison::cell_file::{parse, Cell};
 use comparison::functions::NEVER;
-use comparison::program::{bytes, in_repository};
+use comparison::other_tool::{self, Sample};
 use comparison::simulator::circuit::Circuit;
 use comparison::simulator::pattern::State;
+use comparison::simulator::reach::Reach;
 use comparison::simulator::run::Run;
-use comparison::vectors::text;
-use comparison::waves;
 
-fn file() -> Vec<u8> {
-    bytes(&in_repository("cells/two-wires-at-once.cell"))
-}
-
-fn cell() -> Cell {
-    parse(&file()).expect("a legal cell")
-}
+const SAMPLE: Sample = Sample("two-wires-at-once");
 
 /// The order in which the wires of a picosecond are flipped.
 #[derive(Clone, Copy, PartialEq, Eq)]
@@ -25,8 +17,8 @@ enum Order {
     Falling,
 }
 
-/// A step of the tool that is wrong: each wire is flipped, and the groups that it
-/// touches are read, before the next one is.
+/// A step of the tool that is wrong: each wire is flipped, and what it reaches is read,
+/// before the next one is.
 fn step(state: &mut State, circuit: &Circuit, pattern: usize, time: u32, order: Order) {
     let entries = circuit.cell.schedule.iter();
     let now = entries.filter(|entry| entry.time == time);
@@ -39,64 +31,34 @@ fn step(state: &mut State, circuit: &Circuit, pattern: usize, time: u32, order: 
         wires.reverse();
     }
     for wire in wires {
+        let before = state.values.clone();
         state.values[wire] = !state.values[wire];
         state.next[wire] = NEVER;
-        let changed: Vec<bool> = (0..circuit.nodes()).map(|node| node == wire).collect();
-        state.consider(circuit, time, &circuit.touched(&changed));
+        let reach = Reach {
+            circuit,
+            before: &before,
+            after: &state.values,
+        };
+        let reconsidered = reach.reconsidered();
+        state.consider(circuit, time, &reconsidered);
     }
 }
 
 /// Runs a cell one by one to its end; gives also its listing after the start.
 fn one_by_one(circuit: &Circuit, order: Order) -> (Run, Vec<String>) {
-    let mut run = Run::start(circuit);
-    let (mut lines, mut steps) = (Vec::new(), 0);
-    while let Some(time) = run.next_time(circuit) {
-        let before = run.clone();
-        for (pattern, state) in run.states.iter_mut().enumerate() {
-            step(state, circuit, pattern, time, order);
-        }
-        run.now = time;
-        steps += 1;
-        for node in circuit.records() {
-            let values = |run: &Run| run.states.iter().map(|state| state.values[node]).collect();
-            let [old, new]: [Vec<bool>; 2] = [values(&before), values(&run)];
-            if old != new {
-                let high = new.iter().filter(|&&high| high).count();
-                lines.push(format!("{time} {node} {high}"));
-            }
-        }
-    }
-    lines.push(format!("end {} {steps}", run.now));
-    (run, lines)
-}
-
-/// The lines of a column in the table of `cells/README.md`.
-fn told(column: usize) -> Vec<String> {
-    let text = text(&in_repository("cells/README.md"));
-    let table = text
-        .lines()
-        .skip_while(|line| !line.starts_with("| `two-wires-at-once.waves` |"));
-    let rows = table.skip(2).take_while(|line| line.starts_with('|'));
-    let cell = |row: &str| {
-        row.split('|')
-            .nth(column)
-            .map(|cell| cell.trim().to_owned())
-    };
-    let cells = rows.filter_map(cell).filter(|cell| !cell.is_empty());
-    cells
-        .map(|cell| cell.trim_matches('`').to_owned())
-        .collect()
+    other_tool::run(circuit, |state, pattern, time| {
+        step(state, circuit, pattern, time, order)
+    })
 }
 
 /// The table has what both tools list from 220 ps on.
 #[test]
 fn side_by_side() {
-    let by_the_rules: Vec<String> = waves::of_file(&file()).lines().map(str::to_owned).collect();
-    let (_, wrong) = one_by_one(&Circuit::new(&cell()), Order::Rising);
-    for (column, listing) in [(1, by_the_rules), (2, wrong)] {
+    let (_, wrong) = one_by_one(&Circuit::new(&SAMPLE.cell()), Order::Rising);
+    for (column, listing) in [(1, SAMPLE.listing()), (2, wrong)] {
         let first = listing.iter().position(|line| line.starts_with("220 "));
         let from = &listing[first.expect("a change at 220 ps")..];
-        assert_eq!(told(column), from, "column {column}");
+        assert_eq!(SAMPLE.told(column), from, "column {column}");
     }
 }
 
@@ -104,7 +66,7 @@ fn side_by_side() {
 /// pattern 1 and the release does not come; the other patterns tell nothing.
 #[test]
 fn told_apart_by_one_pattern() {
-    let cell = cell();
+    let cell = SAMPLE.cell();
     let circuit = Circuit::new(&cell);
     let mut by_the_rules = Run::start(&circuit);
     while let Some(time) = by_the_rules.next_time(&circuit) {

@@ -1,5 +1,5 @@
-//! A cell as the rules see it: nodes by number, rails among them, the channels at
-//! each node, and the groups.
+//! A cell as the rules see it: nodes by number, rails among them, and the channels
+//! at each node.
 
 use crate::cell_file::{Cell, Channel, Role, FIRST_NODE};
 use std::ops::Range;
@@ -13,9 +13,6 @@ pub struct Circuit<'a> {
     pub cell: &'a Cell,
     /// For each node, the transistors with an end there, rising.
     channels: Vec<Vec<usize>>,
-    /// For each node, the least number in its group. A driven node is in none and
-    /// has its own number here.
-    groups: Vec<usize>,
 }
 
 impl<'a> Circuit<'a> {
@@ -23,15 +20,11 @@ impl<'a> Circuit<'a> {
         let mut circuit = Circuit {
             cell,
             channels: vec![Vec::new(); FIRST_NODE + cell.nodes.len()],
-            groups: (0..FIRST_NODE + cell.nodes.len()).collect(),
         };
         for transistor in 0..cell.transistors.len() {
             let [one, other] = circuit.ends(transistor);
             circuit.channels[one].push(transistor);
             circuit.channels[other].push(transistor);
-            if circuit.is_inner(one) && circuit.is_inner(other) {
-                unite(&mut circuit.groups, one, other);
-            }
         }
         circuit
     }
@@ -96,33 +89,12 @@ impl<'a> Circuit<'a> {
         &self.channels[node]
     }
 
-    /// A name of the group of an inner node.
-    pub fn group(&self, node: usize) -> usize {
-        self.groups[node]
-    }
-
     /// The transistor conducts.
     pub fn conducts(&self, transistor: usize, values: &[bool]) -> bool {
         match self.cell.transistors[transistor].channel {
             Channel::N => values[self.gate(transistor)],
             Channel::P => !values[self.gate(transistor)],
         }
-    }
-
-    /// Rule 2: the groups that are touched where these nodes changed value, as
-    /// one answer for each node that names a group.
-    pub fn touched(&self, changed: &[bool]) -> Vec<bool> {
-        let mut touched = vec![false; self.nodes()];
-        for transistor in 0..self.cell.transistors.len() {
-            for end in self.ends(transistor) {
-                let far = self.far_end(transistor, end);
-                let reason = changed[self.gate(transistor)] || self.is_input(far) && changed[far];
-                if self.is_inner(end) && reason {
-                    touched[self.group(end)] = true;
-                }
-            }
-        }
-        touched
     }
 
     /// Rule 3: whether each transistor is kept.

@@ -8,6 +8,7 @@ pub mod arithmetic;
 pub mod calls;
 pub mod circuit;
 pub mod pattern;
+pub mod reach;
 pub mod run;
 pub mod trial;
 pub mod walk;

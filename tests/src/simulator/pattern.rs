@@ -1,6 +1,7 @@
 //! One pattern: its start and its steps.
 
 use super::circuit::{Circuit, SUPPLY};
+use super::reach::Reach;
 use super::walk::{Ends, Walk};
 use crate::cell_file::FIRST_NODE;
 use crate::functions::NEVER;
@@ -24,29 +25,37 @@ impl State {
         }
     }
 
-    /// The start: all nodes take their sources, and every group is touched.
+    /// The start: all nodes take their sources, and every inner node is considered.
     pub fn start(circuit: &Circuit, pattern: usize) -> State {
         let mut state = State::blank(circuit);
         for (number, node) in (FIRST_NODE..).zip(&circuit.cell.nodes) {
             state.values[number] = node.start.at(pattern);
         }
-        state.consider(circuit, 0, &vec![true; circuit.nodes()]);
+        let inner: Vec<bool> = (0..circuit.nodes())
+            .map(|node| circuit.is_inner(node))
+            .collect();
+        state.consider(circuit, 0, &inner);
         state
     }
 
     /// The step to a time, which may be one at which nothing happens here.
     pub fn step(&mut self, circuit: &Circuit, pattern: usize, time: u32) {
-        let before = self.values.clone();
-        self.arrive(circuit, pattern, time);
+        let before = self.arrive(circuit, pattern, time);
         if self.values != before {
-            let pairs = before.iter().zip(&self.values);
-            let changed: Vec<bool> = pairs.map(|(old, new)| old != new).collect();
-            self.consider(circuit, time, &circuit.touched(&changed));
+            let reach = Reach {
+                circuit,
+                before: &before,
+                after: &self.values,
+            };
+            let reconsidered = reach.reconsidered();
+            self.consider(circuit, time, &reconsidered);
         }
     }
 
-    /// Rule 1: inputs take what is scheduled, and nodes flip.
-    fn arrive(&mut self, circuit: &Circuit, pattern: usize, time: u32) {
+    /// Rule 1: inputs take what is scheduled, and nodes flip. Gives the values that
+    /// were there before.
+    pub fn arrive(&mut self, circuit: &Circuit, pattern: usize, time: u32) -> Vec<bool> {
+        let before = self.values.clone();
         for entry in circuit
             .cell
             .schedule
@@ -61,11 +70,12 @@ impl State {
                 self.next[node] = NEVER;
             }
         }
+        before
     }
 
-    /// Rules 3 to 7 for the nodes of touched groups.
-    pub fn consider(&mut self, circuit: &Circuit, time: u32, touched: &[bool]) {
-        if !touched.contains(&true) {
+    /// Rules 3 to 7 for some of the inner nodes.
+    pub fn consider(&mut self, circuit: &Circuit, time: u32, nodes: &[bool]) {
+        if !nodes.contains(&true) {
             return;
         }
         let kept = circuit.kept(&self.values);
@@ -74,16 +84,14 @@ impl State {
             values: &self.values,
             kept: &kept,
         };
-        for node in circuit.records() {
-            if circuit.is_inner(node) && touched[circuit.group(node)] {
-                self.next[node] = next_change(&walk, node, self.next[node], time);
-            }
+        for node in circuit.records().filter(|&node| nodes[node]) {
+            self.next[node] = next_change(&walk, node, self.next[node], time);
         }
     }
 }
 
-/// Rules 4 to 7: the next change of a node whose group is touched.
-fn next_change(walk: &Walk, node: usize, pending: u32, time: u32) -> u32 {
+/// Rules 4 to 7: the next change of a node that is considered.
+pub fn next_change(walk: &Walk, node: usize, pending: u32, time: u32) -> u32 {
     let present = walk.values[node];
     let sum = walk.sum(node, None);
     let new = sum.value(present);

@@ -1,0 +1,70 @@
+//! Tools that depart from the rules in one thing: their listings of a sample cell, and
+//! the table of `cells/README.md` that sets them beside the rules' listing.
+
+use crate::cell_file::{parse, Cell};
+use crate::program::{bytes, in_repository};
+use crate::simulator::circuit::Circuit;
+use crate::simulator::pattern::State;
+use crate::simulator::run::Run;
+use crate::vectors::text;
+use crate::waves;
+
+/// A sample cell by its name.
+#[derive(Clone, Copy, Debug)]
+pub struct Sample(pub &'static str);
+
+impl Sample {
+    fn file(self) -> Vec<u8> {
+        bytes(&in_repository(&format!("cells/{}.cell", self.0)))
+    }
+
+    pub fn cell(self) -> Cell {
+        parse(&self.file()).expect("a legal cell")
+    }
+
+    /// What the rules list after the start.
+    pub fn listing(self) -> Vec<String> {
+        let listing = waves::of_file(&self.file());
+        let lines = listing.lines().skip(1);
+        lines
+            .skip_while(|line| line.starts_with("0 "))
+            .map(str::to_owned)
+            .collect()
+    }
+
+    /// The lines of a column in the table that begins with the sample's listing.
+    pub fn told(self, column: usize) -> Vec<String> {
+        let text = text(&in_repository("cells/README.md"));
+        let head = format!("| `{}.waves` |", self.0);
+        let table = text.lines().skip_while(|line| !line.starts_with(&head));
+        let rows = table.skip(2).take_while(|line| line.starts_with('|'));
+        let cells = rows.filter_map(|row| row.split('|').nth(column));
+        let lines = cells.map(|cell| cell.trim().trim_matches('`').to_owned());
+        lines.filter(|line| !line.is_empty()).collect()
+    }
+}
+
+/// Runs a cell to its end with another tool's step of a pattern to a time; gives also the
+/// listing after the start.
+pub fn run(circuit: &Circuit, step: impl Fn(&mut State, usize, u32)) -> (Run, Vec<String>) {
+    let mut run = Run::start(circuit);
+    let (mut lines, mut steps) = (Vec::new(), 0);
+    while let Some(time) = run.next_time(circuit) {
+        let before = run.clone();
+        for (pattern, state) in run.states.iter_mut().enumerate() {
+            step(state, pattern, time);
+        }
+        run.now = time;
+        steps += 1;
+        for node in circuit.records() {
+            let values = |run: &Run| run.states.iter().map(|state| state.values[node]).collect();
+            let [old, new]: [Vec<bool>; 2] = [values(&before), values(&run)];
+            if old != new {
+                let high = new.iter().filter(|&&high| high).count();
+                lines.push(format!("{time} {node} {high}"));
+            }
+        }
+    }
+    lines.push(format!("end {} {steps}", run.now));
+    (run, lines)
+}
