@@ -5,7 +5,7 @@
 //! allocation, and each arm of a kept tree worked out once for all nodes that read
 //! it. With `REMEMBER` false every node is walked to by itself, as the rules tell.
 
-use comparison::cell_file::{Cell, Channel, Role, Source, FIRST_NODE};
+use comparison::cell_file::{self, Cell, Channel, Role, Source, FIRST_NODE};
 
 /// The most nodes, with the rails, and the most transistors.
 const NODES: usize = 26;
@@ -18,16 +18,11 @@ const CEILING: u64 = 1_000_000_000;
 
 #[derive(Clone, Copy, Default)]
 struct Transistor {
-    gate: u8,
-    /// Conducts where the gate is this.
-    on: u32,
     ends: [u8; 2],
     resistance: u64,
-    /// Both ends are inner nodes.
-    inside: bool,
 }
 
-/// A cell in fixed arrays. Bit n of a set of nodes is node n.
+/// A cell in fixed arrays. Bit n of a set of nodes is node n, and so for transistors.
 pub struct Plain {
     letters: u32,
     nodes: usize,
@@ -37,12 +32,14 @@ pub struct Plain {
     start: [Source; NODES],
     transistors: [Transistor; TRANSISTORS],
     schedule: Vec<(u32, u8, Source)>,
-    /// For each node, the groups that its change touches, by their first nodes.
-    touches: [u32; NODES],
-    /// For the first node of each group, its nodes and its transistors.
-    group_nodes: [u32; NODES],
-    group_transistors: [u64; NODES],
-    groups: u32,
+    /// The p transistors, and those between two inner nodes.
+    p: u64,
+    inside: u64,
+    /// For each node, the transistors that it gates, and those with an end there.
+    gated: [u64; NODES],
+    channels: [u64; NODES],
+    /// For each node, the inner ends of the transistors that its change disturbs.
+    disturbs: [u32; NODES],
 }
 
 /// How a pattern stands in the end: the values as a set, and the next changes.
@@ -73,10 +70,11 @@ impl Plain {
             start: [Source::Low; NODES],
             transistors: [Transistor::default(); TRANSISTORS],
             schedule: Vec::new(),
-            touches: [0; NODES],
-            group_nodes: [0; NODES],
-            group_transistors: [0; NODES],
-            groups: 0,
+            p: 0,
+            inside: 0,
+            gated: [0; NODES],
+            channels: [0; NODES],
+            disturbs: [0; NODES],
         };
         plain.start[1] = Source::High;
         for (number, node) in (FIRST_NODE..).zip(&cell.nodes) {
@@ -89,48 +87,34 @@ impl Plain {
         for entry in &cell.schedule {
             plain.schedule.push((entry.time, entry.node, entry.source));
         }
-        for (transistor, of_cell) in plain.transistors.iter_mut().zip(&cell.transistors) {
-            let is_inner = |node: u8| plain.inner >> node & 1 == 1;
-            *transistor = Transistor {
-                gate: of_cell.gate,
-                on: u32::from(of_cell.channel == Channel::N),
-                ends: of_cell.ends,
-                resistance: u64::from(of_cell.resistance),
-                inside: of_cell.ends.iter().all(|&end| is_inner(end)),
-            };
+        for (number, transistor) in cell.transistors.iter().enumerate() {
+            plain.add(number, transistor);
         }
-        plain.find_groups(cell.transistors.len());
         plain
     }
 
-    /// Groups, and what touches them.
-    fn find_groups(&mut self, count: usize) {
-        let mut first: [usize; NODES] = std::array::from_fn(|node| node);
-        let transistors = self.transistors;
-        for transistor in transistors[..count].iter().filter(|one| one.inside) {
-            let [one, other] = transistor.ends.map(|end| first[usize::from(end)]);
-            for name in &mut first {
-                if *name == one.max(other) {
-                    *name = one.min(other);
-                }
-            }
+    /// Adds a transistor of the cell, whose nodes are all there.
+    fn add(&mut self, number: usize, of_cell: &cell_file::Transistor) {
+        let set = 1 << number;
+        let ends = of_cell.ends.map(usize::from);
+        let inner = ends.map(|end| self.inner & 1 << end);
+        self.transistors[number] = Transistor {
+            ends: of_cell.ends,
+            resistance: u64::from(of_cell.resistance),
+        };
+        if of_cell.channel == Channel::P {
+            self.p |= set;
         }
-        for node in members(u64::from(self.inner)) {
-            self.group_nodes[first[node]] |= 1 << node;
-            self.groups |= 1 << first[node];
+        if inner[0] != 0 && inner[1] != 0 {
+            self.inside |= set;
         }
-        for (number, transistor) in transistors[..count].iter().enumerate() {
-            for (near, far) in [(0, 1), (1, 0)] {
-                let near = usize::from(transistor.ends[near]);
-                let far = usize::from(transistor.ends[far]);
-                if self.inner >> near & 1 == 1 {
-                    let group = first[near];
-                    self.group_transistors[group] |= 1 << number;
-                    self.touches[usize::from(transistor.gate)] |= 1 << group;
-                    if self.inner >> far & 1 == 0 {
-                        self.touches[far] |= 1 << group;
-                    }
-                }
+        let gate = usize::from(of_cell.gate);
+        self.gated[gate] |= set;
+        self.disturbs[gate] |= inner[0] | inner[1];
+        for (end, far) in [(ends[0], inner[1]), (ends[1], inner[0])] {
+            self.channels[end] |= set;
+            if self.inner >> end & 1 == 0 {
+                self.disturbs[end] |= far;
             }
         }
     }
@@ -147,8 +131,11 @@ impl Plain {
         let sources = self.start[..self.nodes].iter().enumerate();
         let value = |(node, source): (usize, &Source)| u32::from(source.at(pattern)) << node;
         let mut values = sources.map(value).fold(0, |set, bit| set | bit);
+        // A change of a gate turns the transistors that it gates on or off.
+        let high = members(u64::from(values));
+        let mut on = high.fold(self.p, |on, node| on ^ self.gated[node]);
         let mut next = [NEVER; NODES];
-        self.consider::<REMEMBER>(values, &mut next, self.groups, 0, work);
+        self.consider::<REMEMBER>((values, on), &mut next, self.inner, 0, work);
         let mut entries = self.schedule.iter().peekable();
         loop {
             let pending = next.iter().copied().fold(NEVER, u32::min);
@@ -169,45 +156,91 @@ impl Plain {
                 changed |= ((values >> node & 1) ^ new) << node;
             }
             values ^= changed;
-            let touches = members(u64::from(changed)).map(|node| self.touches[node]);
-            let touched = touches.fold(0, |set, groups| set | groups);
-            if touched != 0 {
-                self.consider::<REMEMBER>(values, &mut next, touched, time, work);
+            let mut ends = 0;
+            for node in members(u64::from(changed)) {
+                on ^= self.gated[node];
+                ends |= self.disturbs[node];
+            }
+            self.consider::<REMEMBER>((values, on), &mut next, ends, time, work);
+        }
+    }
+
+    /// Rules 3 to 7 for the pieces that hold one of these nodes: all that channels lead
+    /// to that conduct after the values of T are set. Rule 2 counts those that conduct
+    /// before as well, which comes to the same nodes.
+    fn consider<const REMEMBER: bool>(
+        &self,
+        (values, on): (u32, u64),
+        next: &mut [u32; NODES],
+        mut ends: u32,
+        time: u32,
+        work: &mut Work,
+    ) {
+        work.forget();
+        while ends != 0 {
+            let (nodes, kept) = self.piece(on, ends.trailing_zeros());
+            ends &= !nodes;
+            let mut walk = Walk {
+                plain: self,
+                values,
+                kept,
+                new: 0,
+                ends: 0,
+                work,
+            };
+            for node in members(u64::from(nodes)) {
+                next[node] = walk.next_change::<REMEMBER>(node, next[node], time);
             }
         }
     }
 
-    /// Rules 3 to 7 for the nodes of some groups.
-    fn consider<const REMEMBER: bool>(
-        &self,
-        values: u32,
-        next: &mut [u32; NODES],
-        groups: u32,
-        time: u32,
-        work: &mut Work,
-    ) {
-        let (mut nodes, mut transistors) = (0, 0);
-        for group in members(u64::from(groups)) {
-            nodes |= self.group_nodes[group];
-            transistors |= self.group_transistors[group];
+    /// The inner nodes that conducting channels join with a node, and the kept
+    /// transistors at them.
+    fn piece(&self, on: u64, first: u32) -> (u32, u64) {
+        let mut nodes = 1_u32 << first;
+        let (mut open, mut conducting, mut has_loop) = (nodes, 0, false);
+        while open != 0 {
+            let node = open.trailing_zeros() as usize;
+            open &= open - 1;
+            let here = on & self.channels[node];
+            for number in members(here & self.inside & !conducting) {
+                let (far, _) = self.far(number, node);
+                has_loop |= nodes >> far & 1 == 1;
+                open |= 1 << far & !nodes;
+                nodes |= 1 << far;
+            }
+            conducting |= here;
         }
-        work.begin(nodes);
-        for number in members(transistors) {
-            let transistor = &self.transistors[number];
-            if values >> transistor.gate & 1 == transistor.on {
-                work.keep(number, transistor, self.inner);
+        match has_loop {
+            true => (nodes, self.without_loops(conducting)),
+            false => (nodes, conducting),
+        }
+    }
+
+    /// The kept ones of the conducting transistors of a piece.
+    fn without_loops(&self, conducting: u64) -> u64 {
+        let mut kept = conducting;
+        // The nodes that each node is joined with.
+        let mut joined: [u32; NODES] = std::array::from_fn(|node| 1 << node);
+        for number in members(conducting & self.inside) {
+            let [one, other] = self.transistors[number].ends.map(usize::from);
+            if joined[one] >> other & 1 == 1 {
+                kept &= !(1 << number);
+                continue;
+            }
+            let all = joined[one] | joined[other];
+            for node in members(u64::from(all)) {
+                joined[node] = all;
             }
         }
-        let mut walk = Walk {
-            plain: self,
-            values,
-            new: 0,
-            ends: 0,
-            work,
-        };
-        for node in members(u64::from(nodes)) {
-            next[node] = walk.next_change::<REMEMBER>(node, next[node], time);
-        }
+        kept
+    }
+
+    /// The other end of a transistor, and which of the two it is.
+    fn far(&self, number: usize, near: usize) -> (usize, usize) {
+        let ends = self.transistors[number].ends;
+        let far = usize::from(usize::from(ends[0]) == near);
+        (usize::from(ends[far]), far)
     }
 }
 
@@ -229,11 +262,6 @@ struct Load {
 
 /// What is worked out anew at each moment.
 pub struct Work {
-    /// The kept transistors at each node.
-    arms: [[u8; TRANSISTORS]; NODES],
-    counts: [u8; NODES],
-    /// The nodes that each node is joined with.
-    joined: [u32; NODES],
     /// Sums and loads of arms, and which of them are known: bit t of the first set
     /// is the arm at transistor t's second end, seen from its first.
     sums: [[Sum; TRANSISTORS]; 2],
@@ -246,9 +274,6 @@ pub struct Work {
 impl Work {
     pub fn new() -> Box<Work> {
         Box::new(Work {
-            arms: [[0; TRANSISTORS]; NODES],
-            counts: [0; NODES],
-            joined: [0; NODES],
             sums: [[Sum::default(); TRANSISTORS]; 2],
             known_sums: [0; 2],
             loads: [[[Load::default(); TRANSISTORS]; 2]; 2],
@@ -256,33 +281,9 @@ impl Work {
         })
     }
 
-    fn begin(&mut self, nodes: u32) {
-        for node in members(u64::from(nodes)) {
-            self.counts[node] = 0;
-            self.joined[node] = 1 << node;
-        }
+    fn forget(&mut self) {
         self.known_sums = [0; 2];
         self.known_loads = [[0; 2]; 2];
-    }
-
-    /// Keeps a conducting transistor unless its ends are joined already.
-    fn keep(&mut self, number: usize, transistor: &Transistor, inner: u32) {
-        let [one, other] = transistor.ends.map(usize::from);
-        if transistor.inside {
-            if self.joined[one] >> other & 1 == 1 {
-                return;
-            }
-            let all = self.joined[one] | self.joined[other];
-            for node in members(u64::from(all)) {
-                self.joined[node] = all;
-            }
-        }
-        for end in [one, other] {
-            if inner >> end & 1 == 1 {
-                self.arms[end][usize::from(self.counts[end])] = number as u8;
-                self.counts[end] += 1;
-            }
-        }
     }
 }
 
@@ -301,13 +302,11 @@ fn through(own: u64, other: u64, r: u64) -> u64 {
     }
 }
 
-/// No transistor: the walk starts here.
-const NONE: usize = TRANSISTORS;
-
-/// A cell at one moment of one pattern.
+/// A piece of a cell at one moment of one pattern.
 struct Walk<'a> {
     plain: &'a Plain,
     values: u32,
+    kept: u64,
     /// The value that loads are worked out for.
     new: u32,
     /// The nodes at which their walk ends: rails and inputs, and where charge decides
@@ -320,7 +319,7 @@ struct Walk<'a> {
 impl Walk<'_> {
     fn next_change<const REMEMBER: bool>(&mut self, node: usize, pending: u32, time: u32) -> u32 {
         let present = self.values >> node & 1;
-        let sum = self.sum::<REMEMBER>(node, NONE);
+        let sum = self.sum::<REMEMBER>(node, 0);
         let by_charge = (sum.high, sum.low) == (INFINITE, INFINITE);
         let (for_high, for_low) = match by_charge {
             true => (sum.charge_high, sum.charge_low),
@@ -340,7 +339,7 @@ impl Walk<'_> {
             (true, 0) => !self.plain.inner | !self.values,
             (true, _) => !self.plain.inner | self.values,
         };
-        let load = self.load::<REMEMBER>(node, NONE);
+        let load = self.load::<REMEMBER>(node, 0);
         assert_ne!(
             load.resistance, INFINITE,
             "nothing holds node {node}'s new value"
@@ -353,14 +352,12 @@ impl Walk<'_> {
         }
     }
 
-    /// The other end of a transistor, and which of the two it is.
-    fn far(&self, number: usize, near: usize) -> (usize, usize) {
-        let ends = self.plain.transistors[number].ends;
-        let far = usize::from(usize::from(ends[0]) == near);
-        (usize::from(ends[far]), far)
+    /// The kept transistors at a node but the one it was reached by.
+    fn arms(&self, node: usize, by: u64) -> impl Iterator<Item = usize> {
+        members(self.kept & self.plain.channels[node] & !by)
     }
 
-    fn sum<const REMEMBER: bool>(&mut self, node: usize, by: usize) -> Sum {
+    fn sum<const REMEMBER: bool>(&mut self, node: usize, by: u64) -> Sum {
         let capacitance = self.plain.capacitance[node];
         let value = u64::from(self.values >> node & 1);
         let mut sum = Sum {
@@ -369,21 +366,18 @@ impl Walk<'_> {
             charge_high: value * capacitance,
             charge_low: (1 - value) * capacitance,
         };
-        for at in 0..usize::from(self.work.counts[node]) {
-            let number = usize::from(self.work.arms[node][at]);
-            if number != by {
-                let arm = self.arm_sum::<REMEMBER>(number, node);
-                sum.high = parallel(sum.high, arm.high);
-                sum.low = parallel(sum.low, arm.low);
-                sum.charge_high += arm.charge_high;
-                sum.charge_low += arm.charge_low;
-            }
+        for number in self.arms(node, by) {
+            let arm = self.arm_sum::<REMEMBER>(number, node);
+            sum.high = parallel(sum.high, arm.high);
+            sum.low = parallel(sum.low, arm.low);
+            sum.charge_high += arm.charge_high;
+            sum.charge_low += arm.charge_low;
         }
         sum
     }
 
     fn arm_sum<const REMEMBER: bool>(&mut self, number: usize, near: usize) -> Sum {
-        let (far, side) = self.far(number, near);
+        let (far, side) = self.plain.far(number, near);
         let r = self.plain.transistors[number].resistance;
         if self.plain.inner >> far & 1 == 0 {
             let high = self.values >> far & 1 == 1;
@@ -396,7 +390,7 @@ impl Walk<'_> {
         if REMEMBER && self.work.known_sums[side] >> number & 1 == 1 {
             return self.work.sums[side][number];
         }
-        let sum = self.sum::<REMEMBER>(far, number);
+        let sum = self.sum::<REMEMBER>(far, 1 << number);
         let arm = Sum {
             high: through(sum.high, sum.low, r),
             low: through(sum.low, sum.high, r),
@@ -409,25 +403,22 @@ impl Walk<'_> {
         arm
     }
 
-    fn load<const REMEMBER: bool>(&mut self, node: usize, by: usize) -> Load {
+    fn load<const REMEMBER: bool>(&mut self, node: usize, by: u64) -> Load {
         let other = u64::from((self.values >> node & 1) ^ self.new);
         let mut load = Load {
             resistance: INFINITE,
             capacitance: other * self.plain.capacitance[node],
         };
-        for at in 0..usize::from(self.work.counts[node]) {
-            let number = usize::from(self.work.arms[node][at]);
-            if number != by {
-                let arm = self.arm_load::<REMEMBER>(number, node);
-                load.resistance = parallel(load.resistance, arm.resistance);
-                load.capacitance += arm.capacitance;
-            }
+        for number in self.arms(node, by) {
+            let arm = self.arm_load::<REMEMBER>(number, node);
+            load.resistance = parallel(load.resistance, arm.resistance);
+            load.capacitance += arm.capacitance;
         }
         load
     }
 
     fn arm_load<const REMEMBER: bool>(&mut self, number: usize, near: usize) -> Load {
-        let (far, side) = self.far(number, near);
+        let (far, side) = self.plain.far(number, near);
         let r = self.plain.transistors[number].resistance;
         if self.ends >> far & 1 == 1 {
             let at_new = self.values >> far & 1 == self.new;
@@ -440,7 +431,7 @@ impl Walk<'_> {
         if REMEMBER && self.work.known_loads[new][side] >> number & 1 == 1 {
             return self.work.loads[new][side][number];
         }
-        let load = self.load::<REMEMBER>(far, number);
+        let load = self.load::<REMEMBER>(far, 1 << number);
         let arm = match load.resistance {
             INFINITE => load,
             ohms => Load {
