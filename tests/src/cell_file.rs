@@ -52,6 +52,16 @@ impl Source {
         }
     }
 
+    /// The source that is always of the other value.
+    pub fn turned(self) -> Source {
+        match self {
+            Source::Low => Source::High,
+            Source::High => Source::Low,
+            Source::Letter(k) => Source::NotLetter(k),
+            Source::NotLetter(k) => Source::Letter(k),
+        }
+    }
+
     /// Its value at a pattern, whose bit k is letter k.
     pub fn at(self, pattern: usize) -> bool {
         match self {

@@ -59,6 +59,18 @@ impl Moment<'_> {
         }
     }
 
+    /// The state as rule 1 leaves it.
+    fn arrived(&self) -> State {
+        let mut state = self.after.clone();
+        for node in self.inner() {
+            state.next[node] = match self.flipped(node) {
+                true => NEVER,
+                false => self.before.next[node],
+            };
+        }
+        state
+    }
+
     /// The nodes that a start or step considers.
     fn considered(&self) -> Vec<bool> {
         match self.time {
@@ -177,10 +189,7 @@ fn look_at(seen: &mut Seen, walk: &Walk, moment: &Moment, node: usize) {
     seen.count("both sides finite", both);
     let new = sum.value(present);
     let flipped = moment.flipped(node);
-    let pending = match flipped {
-        true => NEVER,
-        false => moment.before.next[node],
-    };
+    let pending = moment.arrived().next[node];
     if new == present {
         seen.count("change called off", pending != NEVER);
         return;
@@ -237,6 +246,53 @@ fn every_rule_acts() {
         seen.count("finished", finished);
         seen.count("dense cell", cell.nodes.len() > 16);
         seen.count("most transistors", cell.transistors.len() == 64);
+    }
+    seen.expect();
+}
+
+/// Ways to misread rule 2, each with the nodes that it reconsiders.
+fn misreadings(moment: &Moment) -> [(&'static str, Vec<bool>); 5] {
+    let reach = &moment.reach();
+    let circuit = moment.circuit;
+    let with = |disturbed: &dyn Fn(usize) -> bool| {
+        let transistors = 0..circuit.cell.transistors.len();
+        let disturbed = transistors.filter(|&transistor| disturbed(transistor));
+        circuit.leading_to(disturbed, |transistor| reach.conducts(transistor))
+    };
+    let rightly = |transistor| reach.is_disturbed(transistor);
+    let by_gate = |transistor| moment.flipped(circuit.gate(transistor));
+    let by_end = |transistor| {
+        let ends = circuit.ends(transistor);
+        ends.into_iter().any(|end| moment.flipped(end))
+    };
+    [
+        ("channels lead that are off", reach.along(|_| true)),
+        ("no channel leads", reach.along(|_| false)),
+        (
+            "disturbed only where conducting",
+            with(&|transistor| rightly(transistor) && reach.conducts(transistor)),
+        ),
+        ("disturbed by gates alone", with(&by_gate)),
+        (
+            "disturbed by inner nodes at its ends",
+            with(&|transistor| by_gate(transistor) || by_end(transistor)),
+        ),
+    ]
+}
+
+/// Each misreading gives other next changes in many steps.
+#[test]
+fn misreadings_show() {
+    let mut seen = Seen::default();
+    for (cell, pattern) in cells() {
+        run(&cell, pattern, |moment| {
+            for (what, nodes) in misreadings(moment) {
+                let mut state = moment.arrived();
+                state.consider(moment.circuit, moment.time, &nodes);
+                let shows = moment.time > 0 && state.next != moment.after.next;
+                seen.count(what, shows);
+            }
+        });
     }
     seen.expect();
 }

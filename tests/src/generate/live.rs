@@ -3,6 +3,7 @@
 //! together.
 
 use super::legal::source;
+use super::shifter;
 use crate::cell_file::{Cell, Channel, Source, CAPACITANCES, HORIZONS, RESISTANCES};
 use crate::draft::{Draft, GROUND, SUPPLY};
 use crate::random::Random;
@@ -17,7 +18,7 @@ pub enum Size {
 }
 
 /// What the parts of one cell are made of.
-struct Parts {
+pub(super) struct Parts {
     letters: u32,
     resistances: Vec<u32>,
     capacitances: Vec<u16>,
@@ -71,7 +72,7 @@ impl Parts {
         horizon.min(last)
     }
 
-    fn source(&self, random: &mut Random) -> Source {
+    pub fn source(&self, random: &mut Random) -> Source {
         if random.below(8) < self.lettered {
             source(random, self.letters)
         } else {
@@ -79,12 +80,16 @@ impl Parts {
         }
     }
 
-    fn resistance(&self, random: &mut Random) -> u32 {
+    pub fn resistance(&self, random: &mut Random) -> u32 {
         random.pick(&self.resistances)
     }
 
+    pub fn capacitance(&self, random: &mut Random) -> u16 {
+        random.pick(&self.capacitances)
+    }
+
     fn inner(&self, random: &mut Random, draft: &mut Draft) -> u8 {
-        let capacitance = random.pick(&self.capacitances);
+        let capacitance = self.capacitance(random);
         draft.inner(capacitance, self.source(random))
     }
 
@@ -114,8 +119,9 @@ pub fn cell(random: &mut Random, size: Size, letters: u32) -> Cell {
     let parts = Parts::draw(random, letters);
     let horizon = parts.horizon(random);
     let mut draft = Draft::new(letters, horizon);
-    let inputs = match random.below(3) {
+    let inputs = match random.below(4) {
         0 => gates(random, &parts, &mut draft, size),
+        1 => shifter::columns(random, &parts, &mut draft, size, horizon),
         _ => channels(random, &parts, &mut draft, size),
     };
     parts.schedule(random, &mut draft, &inputs, horizon);

@@ -9,6 +9,7 @@ pub mod functions;
 pub mod legal;
 pub mod live;
 pub mod records;
+mod shifter;
 pub mod unsound;
 
 use crate::cell_file::{Layout, KINDS, RECORD};

@@ -97,6 +97,29 @@ impl<'a> Circuit<'a> {
         }
     }
 
+    /// The inner nodes from which some channels lead, through inner nodes, to an end of
+    /// one of these transistors, as one answer for each node.
+    pub fn leading_to(
+        &self,
+        transistors: impl Iterator<Item = usize>,
+        leads: impl Fn(usize) -> bool,
+    ) -> Vec<bool> {
+        let mut found = vec![false; self.nodes()];
+        let mut open: Vec<usize> = transistors
+            .flat_map(|transistor| self.ends(transistor))
+            .collect();
+        while let Some(node) = open.pop() {
+            if found[node] || !self.is_inner(node) {
+                continue;
+            }
+            found[node] = true;
+            let channels = self.channels(node).iter().copied();
+            let leading = channels.filter(|&transistor| leads(transistor));
+            open.extend(leading.map(|transistor| self.far_end(transistor, node)));
+        }
+        found
+    }
+
     /// Rule 3: whether each transistor is kept.
     pub fn kept(&self, values: &[bool]) -> Vec<bool> {
         // Two inner nodes are joined if they have the same number here.

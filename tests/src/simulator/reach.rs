@@ -37,26 +37,8 @@ impl Reach<'_> {
     /// The inner nodes from which these channels lead, through inner nodes, to an end
     /// of a disturbed transistor. It may be the node itself.
     pub fn along(&self, leads: impl Fn(usize) -> bool) -> Vec<bool> {
-        let mut found = vec![false; self.circuit.nodes()];
-        let mut open = self.disturbed_ends();
-        while let Some(node) = open.pop() {
-            if found[node] || !self.circuit.is_inner(node) {
-                continue;
-            }
-            found[node] = true;
-            let channels = self.circuit.channels(node).iter().copied();
-            let leading = channels.filter(|&transistor| leads(transistor));
-            open.extend(leading.map(|transistor| self.circuit.far_end(transistor, node)));
-        }
-        found
-    }
-
-    /// Both ends of every disturbed transistor.
-    fn disturbed_ends(&self) -> Vec<usize> {
         let transistors = 0..self.circuit.cell.transistors.len();
-        transistors
-            .filter(|&transistor| self.is_disturbed(transistor))
-            .flat_map(|transistor| self.circuit.ends(transistor))
-            .collect()
+        let disturbed = transistors.filter(|&transistor| self.is_disturbed(transistor));
+        self.circuit.leading_to(disturbed, leads)
     }
 }
