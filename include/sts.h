@@ -456,10 +456,10 @@ uint32_t sts_count(uint32_t letters,
  * charge turns it, the way begins at the nodes that already hold the new value. No
  * flip takes less than 1 ps.
  *
- * A step works out anew the next changes of those nodes alone that the change can
- * reach: channels that conduct just before or just after it lead from the node,
- * through inner nodes, to an end of a transistor whose gate changed value, or that
- * has an input which did at one of its ends. It need not conduct, and the node may
+ * A step works out anew the next changes of those nodes alone that it can reach:
+ * over channels that are on before or after it, and past no rail and no input,
+ * there is a way from the node to an end of a transistor whose gate changed value,
+ * or at whose other end an input did. That transistor may be off, and the node may
  * be that end itself. All other nodes keep their next change. A start works out
  * those of every inner node.
  *
