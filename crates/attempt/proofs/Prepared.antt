@@ -24,8 +24,8 @@ use Rattle.diagram.proofs.Store.{store-ext}
 use Rattle.working.specs.Grown.{bit}
 use Rattle.rules.specs.State.{State, valueAt, isInner}
 use Rattle.rules.specs.Label.{labelAt, joined}
-use Rattle.rules.specs.Group.{groups, inGroup}
-use Rattle.rules.specs.Reach.{isSeed, reconsidered}
+use Rattle.rules.specs.Group.{groups, inGroup, isSeed}
+use Rattle.rules.specs.Reach.{reconsidered}
 use Rattle.rules.specs.Kept.{kept}
 use Rattle.rules.specs.Step.{nextChange}
 use Rattle.rules.proofs.State.{Numbered, Shaped}

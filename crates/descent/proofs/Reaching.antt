@@ -14,7 +14,8 @@ use Rattle.format.specs.Circuit.{Circuit, noTransistor}
 use Rattle.format.proofs.Legal.{LegalCell, LegalTransistor, legal-cell}
 use Rattle.rules.specs.State.{nodeNumbers, isDriven, isInner}
 use Rattle.rules.specs.Label.{joined, betweenInner}
-use Rattle.rules.specs.Kept.{Channel, carriers}
+use Rattle.rules.specs.Kept.{Channel}
+use Rattle.rules.specs.Matrix.{carriers}
 use Rattle.rules.specs.Sum.{farEnd}
 use Rattle.rules.proofs.State.{up-length, up-at}
 use Rattle.rules.proofs.Label.{IsNode, AllLegal, at-each, Joined, joined-sym, Linked·same, Linked·over, pieces-join, some-found, some-passes}

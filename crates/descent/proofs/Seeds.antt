@@ -7,7 +7,7 @@ use Prim.Native.Nat.{ℕ, _+_, _-_, _<_, _≤_}
 use native.Mathlib.Omega.{arith}
 use lib.ListN.{getD}
 use lib.Dec.{eqb, ltb, leb}
-use borrow.Author.Tests.{eqb-true, not-false, lt-ltb, le-leb}
+use borrow.Author.Tests.{eqb-true, eq-eqb, not-true, not-false, leb-true, ltb-true, lt-ltb, le-leb}
 use Rattle.lists.proofs.Cases.{bool-cases, lt-or-ge, and-left, and-right, and-both, true-false}
 use Rattle.net.specs.Net.{netCircuit}
 use Rattle.net.specs.Roots.{seedsPlace, pendingPlace}
@@ -41,6 +41,16 @@ none-next roots live count i none pos e j l m a b =
     ⊎-swap : {A B : Type 0} → A ⊎ B → B ⊎ A
     ⊎-swap (inl a) = inr a
     ⊎-swap (inr b) = inl b
+
+-- a place that passes is a seed's
+pub seed-found : (roots : List ℕ) (a : ℕ) → (leb seedsPlace a && ltb a pendingPlace) && not (eqb (getD roots a 0) 0) ≡ true → NoSeed roots → ⊥
+seed-found roots a e none =
+    let both : leb seedsPlace a && ltb a pendingPlace ≡ true = and-left (leb seedsPlace a && ltb a pendingPlace) _ e in
+    let least : seedsPlace ≤ a = leb-true seedsPlace a (and-left (leb seedsPlace a) (ltb a pendingPlace) both) in
+    let most : a < pendingPlace = ltb-true a pendingPlace (and-right (leb seedsPlace a) (ltb a pendingPlace) both) in
+    let place : seedsPlace + (a - seedsPlace) ≡ a = omega arith in
+    let zero : getD roots a 0 ≡ 0 = ap (λ (j : ℕ). getD roots j 0) (sym place) ∙ none (a - seedsPlace) (omega arith) in
+    true-false (eqb (getD roots a 0) 0) (eq-eqb (getD roots a 0) 0 zero) (not-true (eqb (getD roots a 0) 0) (and-right (leb seedsPlace a && ltb a pendingPlace) _ e))
 
 -- so there is none at all
 pub none-all : {roots live : List ℕ} {count : ℕ} → Live roots live count → NoneFrom roots live count 0 → NoSeed roots

@@ -18,9 +18,10 @@ use Rattle.diagram.proofs.Store.{store-ext}
 use Rattle.rules.specs.State.{State, valueAt, changeAt, isDriven, isInner}
 use Rattle.rules.specs.Arrive.{arrived}
 use Rattle.rules.specs.Label.{Labels, joined, pieces, only}
-use Rattle.rules.specs.Group.{groups, inGroup, ofGroup}
-use Rattle.rules.specs.Reach.{isSeed, reconsidered}
-use Rattle.rules.specs.Kept.{Channel, carriers, kept}
+use Rattle.rules.specs.Group.{groups, inGroup, ofGroup, isSeed}
+use Rattle.rules.specs.Reach.{reconsidered}
+use Rattle.rules.specs.Kept.{Channel, kept}
+use Rattle.rules.specs.Matrix.{carriers}
 use Rattle.rules.specs.Step.{nextChange, stepped, initial, started}
 use Rattle.rules.proofs.State.{Numbered, Shaped}
 use Rattle.rules.proofs.Arrive.{arrived-shaped, arrived-change, stepped-change}

@@ -65,7 +65,7 @@ pub record Searched (net marks list : List ℕ) (count : ℕ) (marks′ list′ 
 abbrev pub Within : List ℕ → List ℕ → ℕ → List ℕ → Type 0
 Within net roots n marks = (m : ℕ) → isIn marks m ≡ true → joined (parts (netCircuit net) roots) n m ≡ true
 
--- a search leaves no other piece
+-- a search that began in n's piece has stayed in it
 abbrev pub StaysIn : List ℕ → List ℕ → List ℕ → List ℕ → Type 0
 StaysIn net roots marks marks′ = (n : ℕ) → Within net roots n marks → Within net roots n marks′
 
@@ -73,7 +73,7 @@ StaysIn net roots marks marks′ = (n : ℕ) → Within net roots n marks → Wi
 abbrev pub isEndOf : List ℕ → ℕ → ℕ → Bool
 isEndOf net i x = eqb (netTransistor net i .first) x || eqb (netTransistor net i .second) x
 
--- exactly the nodes of n's piece: inner nodes that the transistors which are not off join to it, and all beside them that these lead to
+-- exactly n's piece: inner nodes that transistors which are not off join to it (`within`), and each to which such a one leads from there (`closed`)
 pub record Piece (net roots : List ℕ) (n : ℕ) (marks : List ℕ) : Type 0 where
   pub long : length marks ≡ marksLength
   pub own : isIn marks n ≡ true

@@ -11,7 +11,8 @@ use Rattle.diagram.specs.Table.{Table, numberAt}
 use Rattle.diagram.specs.Sound.{sound}
 use Rattle.rules.specs.State.{nodeNumbers}
 use Rattle.rules.specs.Label.{Labels, joined, pieces, some}
-use Rattle.rules.specs.Kept.{Channel, carriers}
+use Rattle.rules.specs.Kept.{Channel}
+use Rattle.rules.specs.Matrix.{carriers}
 use Rattle.rules.specs.Step.{nextChange}
 use Rattle.net.specs.Roots.{keptPlace, leafLength, seedsPlace, pendingPlace, rootsLength}
 use Rattle.plain.specs.Leaf.{keptBy, leafState, leafChannels}
@@ -30,7 +31,7 @@ isSeeded numbers m = eqb (getD numbers (seedsPlace + m) 0) 1
 abbrev pub isOff : List ℕ → ℕ → Bool
 isOff roots i = eqb (getD roots (keptPlace + i) 0) 0
 
--- the pieces that the transistors make of the nodes which are not off
+-- the pieces into which the transistors that are not off part the nodes
 abbrev pub parts : Circuit → List ℕ → Labels
 parts c roots = pieces c (carriers (keptBy (λ (i : ℕ). not (isOff roots i)) 0 (c .transistors)))
 

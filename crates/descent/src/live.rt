@@ -10,7 +10,7 @@ use net::roots::PENDING;
 use net::roots::ROOTS;
 use net::roots::SEEDS;
 ghost use mathlib.Core.Path.{_≡_};
-ghost use mathlib.Core.Bool.{false, cond};
+ghost use mathlib.Core.Bool.{true, false, cond};
 ghost use Prim.Native.Nat.{ℕ, _+_, _<_};
 ghost use lib.ListN.{length, getD, set};
 ghost use lib.Dec.{eqb};
@@ -171,7 +171,7 @@ pub fn narrow(
 // Whether a listed root of a seed is not entry 0. Seeds stand near the end of a list.
 pub fn some_seed(roots: &[u32; ROOTS], live: &[u32; ROOTS], count: u32) -> bool
     requires { ⌜ Live (now roots) (now live) count ⌝ }
-    ensures { λ r. ⌜ (r ≡ false → NoSeed (now (roots .entry))) ⌝ }
+    ensures { λ r. ⌜ (r ≡ false → NoSeed (now (roots .entry))) × (r ≡ true → NoSeed (now (roots .entry)) → ⊥) ⌝ }
 {
     let mut i = count;
     while i > 0 {

@@ -24,8 +24,8 @@ use Rattle.working.proofs.Fill.{number-kept, used-kept, filled-used}
 use Rattle.rules.specs.State.{State, isInner}
 use Rattle.rules.specs.Arrive.{changed}
 use Rattle.rules.specs.Label.{labelAt, joined, betweenInner}
-use Rattle.rules.specs.Group.{groups, inGroup, ofGroup}
-use Rattle.rules.specs.Reach.{touched, isSeed}
+use Rattle.rules.specs.Group.{groups, inGroup, ofGroup, isSeed}
+use Rattle.rules.specs.Reach.{touched}
 use Rattle.rules.specs.Kept.{conducts}
 use Rattle.rules.proofs.Label.{joined-refl}
 use Rattle.rules.specs.Matrix.{isKept, isHeld, transistorAt}

@@ -12,8 +12,7 @@ use Rattle.functions.specs.Open.{Open}
 use Rattle.working.specs.Grown.{bit}
 use Rattle.working.specs.Many.{AllUsed}
 use Rattle.rules.specs.State.{State, isInner}
-use Rattle.rules.specs.Group.{ofGroup}
-use Rattle.rules.specs.Reach.{isSeed}
+use Rattle.rules.specs.Group.{ofGroup, isSeed}
 use Rattle.rules.specs.Matrix.{isKept, transistorAt}
 use Rattle.net.specs.Net.{nodesPlace, transistorsPlace, at, netCircuit, netGroup}
 use Rattle.net.specs.Roots.{keptPlace, seedsPlace, pendingPlace, allRootsLength}

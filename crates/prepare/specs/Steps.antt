@@ -1,8 +1,8 @@
 -- What each part of preparing a step works out, number by number.
 use mathlib.Core.Path.{_≡_}
 use mathlib.Core.List.{List}
-use mathlib.Core.Bool.{Bool, true, not, _&&_, _||_, cond}
-use Prim.Native.Nat.{ℕ, _+_, _<_, _≤_}
+use mathlib.Core.Bool.{Bool, false, true, not, _&&_, _||_, cond}
+use Prim.Native.Nat.{ℕ, _+_, _<_, _≤_, _-_, min}
 use lib.ListN.{getD}
 use lib.Dec.{ltb, eqb}
 use Rattle.format.specs.declared.Transistor.{Transistor}
@@ -13,13 +13,16 @@ use Rattle.diagram.specs.Table.{Table, numberAt}
 use Rattle.diagram.specs.Held.{held}
 use Rattle.diagram.specs.Extends.{Extends}
 use Rattle.functions.specs.Open.{Open}
-use Rattle.working.specs.Grown.{bit}
-use Rattle.working.specs.Many.{cell, AllUsed}
+use Rattle.table.specs.declared.Stop.{Stop}
+use Rattle.table.specs.Stop.{stopped}
+use Rattle.working.specs.Grown.{bit, Crowded}
+use Rattle.working.specs.Many.{cell, AllUsed, Filled, Matrixed, linkedNumber}
 use Rattle.rules.specs.State.{State, valueAt, isInner, nodeNumbers}
-use Rattle.rules.specs.Label.{labelAt, ofPiece, some}
+use Rattle.rules.specs.Label.{labelAt, ofPiece, some, betweenInner}
 use Rattle.rules.specs.Group.{groups}
 use Rattle.rules.specs.Kept.{conducts}
 use Rattle.rules.specs.Matrix.{isHeld, matrixAt, transistorAt}
+use Rattle.net.specs.Net.{nodesPlace, transistorsPlace, loopsPlace, at, netTransistor, netCircuit}
 
 -- a state has the values that entries, by node number, take at a pattern
 abbrev pub Shows : ℕ → Table → List ℕ → ℕ → ℕ → State → Type 0
@@ -123,3 +126,39 @@ pub record KeptAll (c : Circuit) (nodes letters : ℕ) (t : Table) (values activ
       → numberAt letters (held l w h used) (getD kept i 0) p ≡ bit (isHeld c s (lookedAt c letters t active p) i)
   pub open-is : (i p : ℕ) (s : State) → from ≤ i → i < count → p < patterns letters → Shows letters t values nodes p s
       → numberAt letters (held l w h used) (getD kept i 0) p ≡ bit (isOpen c s active i)
+
+-- What the parts leave, by the columns of working afterwards.
+
+-- where each node is a seed by what changed at a pattern, unless there was no room
+abbrev pub Seeds : (net : List ℕ) (letters : ℕ) (t : Table) (all : Bool) (only : ℕ) (changed : ℕ → ℕ → Bool) (l w h ix : List ℕ) (stop : Stop) (used : ℕ) (entries : List ℕ) → Type 0
+Seeds net letters t all only changed l w h ix stop used entries =
+    (stopped stop ≡ false → Filled 26 letters t (λ n p. seedNumber (netCircuit net) (firstNodeNumber + at net nodesPlace) all only (changed p) n) l w h ix used entries)
+    × (stopped stop ≡ true → Crowded letters t l w h ix)
+
+-- the kept number of transistor i at a pattern, by the entries of values, active groups and joined pairs
+abbrev pub keptAt : (net : List ℕ) (letters : ℕ) (t : Table) (values active : List ℕ) (joined : List (List ℕ)) (i p : ℕ) → ℕ
+keptAt net letters t values active joined i p =
+    keptNumber (netTransistor net i .polarity) (betweenInner (netCircuit net) (netTransistor net i))
+    (numberAt letters t (getD active (groupOf (netCircuit net) (netTransistor net i)) 0) p)
+    (numberAt letters t (getD values (netTransistor net i .gate) 0) p)
+    (numberAt letters t (cell joined (netTransistor net i .first - 2) (netTransistor net i .second - 2)) p)
+
+-- the joined number of x and y at a pattern, once transistor i is kept where `kept` says
+abbrev pub linkedAt : (net : List ℕ) (letters : ℕ) (t : Table) (kept : ℕ) (joined : List (List ℕ)) (i x y p : ℕ) → ℕ
+linkedAt net letters t kept joined i x y p =
+    cond (betweenInner (netCircuit net) (netTransistor net i))
+    (linkedNumber (numberAt letters t kept p) (numberAt letters t (cell joined x y) p)
+    (numberAt letters t (cell joined x (netTransistor net i .first - 2)) p) (numberAt letters t (cell joined (netTransistor net i .second - 2) y) p)
+    (numberAt letters t (cell joined x (netTransistor net i .second - 2)) p) (numberAt letters t (cell joined (netTransistor net i .first - 2) y) p))
+    (numberAt letters t (cell joined x y) p)
+
+-- the matrix after transistor i, unless there was no room, which a used count of 0 tells
+abbrev pub Linking : (net : List ℕ) (letters : ℕ) (t : Table) (kept : ℕ) (joined : List (List ℕ)) (i : ℕ) (l w h ix : List ℕ) (used : ℕ) (after : List (List ℕ)) → Type 0
+Linking net letters t kept joined i l w h ix used after =
+    ((used ≡ 0 → ⊥) → Matrixed letters t (linkedAt net letters t kept joined i) l w h ix used after) × (used ≡ 0 → Crowded letters t l w h ix)
+
+-- the kept functions of all transistors, unless there was no room
+abbrev pub KeptWhole : (net : List ℕ) (letters : ℕ) (t : Table) (values active l w h ix : List ℕ) (stop : Stop) (used : ℕ) (kept : List ℕ) → Type 0
+KeptWhole net letters t values active l w h ix stop used kept =
+    (stopped stop ≡ false → KeptAll (netCircuit net) (at net nodesPlace) letters t values active (min (at net loopsPlace) (at net transistorsPlace)) (at net transistorsPlace) l w h ix used kept)
+    × (stopped stop ≡ true → Crowded letters t l w h ix)

@@ -1,7 +1,7 @@
 // Rule 3 where channels make loops: the kept functions of the transistors, by rising number, with the matrix of joined-functions.
 ghost use mathlib.Core.Path.{_≡_};
-ghost use mathlib.Core.Bool.{true, false, cond};
-ghost use Prim.Native.Nat.{ℕ, _+_, _-_, _<_, _≤_};
+ghost use mathlib.Core.Bool.{true, false};
+ghost use Prim.Native.Nat.{ℕ, _+_, _<_, _≤_};
 ghost use lib.ListN.{getD};
 ghost use lib.Dec.{eqb};
 ghost use Rattle.format.specs.Circuit.{firstNodeNumber};
@@ -10,11 +10,10 @@ ghost use Rattle.diagram.specs.Held.{held};
 ghost use Rattle.table.specs.Stop.{stopped};
 ghost use Rattle.functions.specs.Open.{Open};
 ghost use Rattle.working.specs.Grown.{bit, Crowded, Grown};
-ghost use Rattle.working.specs.Many.{AllUsed, cell, Matrixed, linkedNumber};
-ghost use Rattle.rules.specs.Label.{betweenInner};
+ghost use Rattle.working.specs.Many.{AllUsed, cell};
 ghost use Rattle.net.specs.Net.{nodesPlace, transistorsPlace, at as atPlace, netTransistor, netCircuit};
 ghost use Rattle.net.specs.Laid.{Laid};
-ghost use Rattle.prepare.specs.Steps.{Bits, groupOf, conductsNumber, keptNumber, KeptLooped};
+ghost use Rattle.prepare.specs.Steps.{Bits, conductsNumber, KeptLooped, keptAt, Linking};
 use crate::group::group_of;
 use net::inner::between_inner;
 use table::Put;
@@ -77,7 +76,7 @@ fn keep(
 ) -> Put
     requires { ⌜ Laid (netCircuit (now net)) (now net) × (i < atPlace (now net) transistorsPlace) ⌝ }
     requires { ⌜ Open k (now letter) (now low) (now high) (now index) used × AllUsed 26 values used × AllUsed 26 active used × ((x y : ℕ) → x < 24 → y < 24 → cell (now joined) x y < used) ⌝ }
-    ensures { λ r. ⌜ Grown k (held (now (letter .entry)) (now (low .entry)) (now (high .entry)) used) (λ p. keptNumber (netTransistor (now (net .entry)) i .polarity) (betweenInner (netCircuit (now (net .entry))) (netTransistor (now (net .entry)) i)) (numberAt k (held (now (letter .entry)) (now (low .entry)) (now (high .entry)) used) (getD active (groupOf (netCircuit (now (net .entry))) (netTransistor (now (net .entry)) i)) 0) p) (numberAt k (held (now (letter .entry)) (now (low .entry)) (now (high .entry)) used) (getD values (netTransistor (now (net .entry)) i .gate) 0) p) (numberAt k (held (now (letter .entry)) (now (low .entry)) (now (high .entry)) used) (cell (now (joined .entry)) (netTransistor (now (net .entry)) i .first - 2) (netTransistor (now (net .entry)) i .second - 2)) p)) (now (letter .exit)) (now (low .exit)) (now (high .exit)) (now (index .exit)) r ⌝ }
+    ensures { λ r. ⌜ Grown k (held (now (letter .entry)) (now (low .entry)) (now (high .entry)) used) (λ p. keptAt (now (net .entry)) k (held (now (letter .entry)) (now (low .entry)) (now (high .entry)) used) values active (now (joined .entry)) i p) (now (letter .exit)) (now (low .exit)) (now (high .exit)) (now (index .exit)) r ⌝ }
 {
     let g = group_of(net, i);
     let e = active[g];
@@ -122,7 +121,7 @@ fn link_kept(
 )
     requires { ⌜ Laid (netCircuit (now net)) (now net) × (i < atPlace (now net) transistorsPlace) ⌝ }
     requires { ⌜ Open k (now letter) (now low) (now high) (now index) (now used) × (kept < now used) × ((x y : ℕ) → x < 24 → y < 24 → cell (now joined) x y < now used) ⌝ }
-    ensures { λ _. ⌜ ((now (used .exit) ≡ 0 → ⊥) → Matrixed k (held (now (letter .entry)) (now (low .entry)) (now (high .entry)) (now (used .entry))) (λ x y p. cond (betweenInner (netCircuit (now (net .entry))) (netTransistor (now (net .entry)) i)) (linkedNumber (numberAt k (held (now (letter .entry)) (now (low .entry)) (now (high .entry)) (now (used .entry))) kept p) (numberAt k (held (now (letter .entry)) (now (low .entry)) (now (high .entry)) (now (used .entry))) (cell (now (joined .entry)) x y) p) (numberAt k (held (now (letter .entry)) (now (low .entry)) (now (high .entry)) (now (used .entry))) (cell (now (joined .entry)) x (netTransistor (now (net .entry)) i .first - 2)) p) (numberAt k (held (now (letter .entry)) (now (low .entry)) (now (high .entry)) (now (used .entry))) (cell (now (joined .entry)) (netTransistor (now (net .entry)) i .second - 2) y) p) (numberAt k (held (now (letter .entry)) (now (low .entry)) (now (high .entry)) (now (used .entry))) (cell (now (joined .entry)) x (netTransistor (now (net .entry)) i .second - 2)) p) (numberAt k (held (now (letter .entry)) (now (low .entry)) (now (high .entry)) (now (used .entry))) (cell (now (joined .entry)) (netTransistor (now (net .entry)) i .first - 2) y) p)) (numberAt k (held (now (letter .entry)) (now (low .entry)) (now (high .entry)) (now (used .entry))) (cell (now (joined .entry)) x y) p)) (now (letter .exit)) (now (low .exit)) (now (high .exit)) (now (index .exit)) (now (used .exit)) (now (joined .exit))) × (now (used .exit) ≡ 0 → Crowded k (held (now (letter .entry)) (now (low .entry)) (now (high .entry)) (now (used .entry))) (now (letter .exit)) (now (low .exit)) (now (high .exit)) (now (index .exit))) ⌝ }
+    ensures { λ _. ⌜ Linking (now (net .entry)) k (held (now (letter .entry)) (now (low .entry)) (now (high .entry)) (now (used .entry))) kept (now (joined .entry)) i (now (letter .exit)) (now (low .exit)) (now (high .exit)) (now (index .exit)) (now (used .exit)) (now (joined .exit)) ⌝ }
 {
     if kept == 0 {
         return;

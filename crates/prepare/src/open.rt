@@ -1,7 +1,7 @@
 // Rule 3 past the last transistor that closes a loop of channels: each is kept wherever it conducts, and no matrix is needed.
 ghost use mathlib.Core.Path.{_≡_};
 ghost use mathlib.Core.Bool.{true, false};
-ghost use Prim.Native.Nat.{_+_, _<_, min};
+ghost use Prim.Native.Nat.{_+_, _<_};
 ghost use lib.ListN.{getD};
 ghost use Rattle.format.specs.Circuit.{firstNodeNumber};
 ghost use Rattle.diagram.specs.Table.{numberAt};
@@ -10,9 +10,9 @@ ghost use Rattle.table.specs.Stop.{stopped};
 ghost use Rattle.functions.specs.Open.{Open};
 ghost use Rattle.working.specs.Grown.{Crowded, Grown};
 ghost use Rattle.working.specs.Many.{AllUsed};
-ghost use Rattle.net.specs.Net.{nodesPlace, transistorsPlace, loopsPlace, at as atPlace, netTransistor, netCircuit};
+ghost use Rattle.net.specs.Net.{nodesPlace, transistorsPlace, at as atPlace, netTransistor, netCircuit};
 ghost use Rattle.net.specs.Laid.{Laid};
-ghost use Rattle.prepare.specs.Steps.{Bits, groupOf, openNumber, KeptRest, KeptAll};
+ghost use Rattle.prepare.specs.Steps.{Bits, groupOf, openNumber, KeptRest, KeptWhole};
 use crate::group::group_of;
 use crate::keep::Kept;
 use crate::keep::conducts;
@@ -108,7 +108,7 @@ pub fn keep_all(
 ) -> Kept
     requires { ⌜ Laid (netCircuit (now net)) (now net) ⌝ }
     requires { ⌜ Open k (now letter) (now low) (now high) (now index) used × AllUsed 26 values used × AllUsed 26 active used × Bits k (held (now letter) (now low) (now high) used) values (firstNodeNumber + atPlace (now net) nodesPlace) ⌝ }
-    ensures { λ r. ⌜ (stopped (r .stop) ≡ false → KeptAll (netCircuit (now (net .entry))) (atPlace (now (net .entry)) nodesPlace) k (held (now (letter .entry)) (now (low .entry)) (now (high .entry)) used) values active (min (atPlace (now (net .entry)) loopsPlace) (atPlace (now (net .entry)) transistorsPlace)) (atPlace (now (net .entry)) transistorsPlace) (now (letter .exit)) (now (low .exit)) (now (high .exit)) (now (index .exit)) (r .used) (r .entries)) × (stopped (r .stop) ≡ true → Crowded k (held (now (letter .entry)) (now (low .entry)) (now (high .entry)) used) (now (letter .exit)) (now (low .exit)) (now (high .exit)) (now (index .exit))) ⌝ }
+    ensures { λ r. ⌜ KeptWhole (now (net .entry)) k (held (now (letter .entry)) (now (low .entry)) (now (high .entry)) used) values active (now (letter .exit)) (now (low .exit)) (now (high .exit)) (now (index .exit)) (r .stop) (r .used) (r .entries) ⌝ }
 {
     let limit = least(net[net::LOOPS], net[net::TRANSISTORS]);
     let a = keep_looped(

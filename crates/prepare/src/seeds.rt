@@ -9,16 +9,15 @@ ghost use Rattle.format.specs.Legal.{isInput};
 ghost use Rattle.diagram.specs.Pattern.{patterns};
 ghost use Rattle.diagram.specs.Table.{numberAt};
 ghost use Rattle.diagram.specs.Held.{held};
-ghost use Rattle.table.specs.Stop.{stopped};
 ghost use Rattle.functions.specs.Open.{Open, Legible};
-ghost use Rattle.working.specs.Grown.{bit, Crowded, Grown};
-ghost use Rattle.working.specs.Many.{AllUsed, Filled};
+ghost use Rattle.working.specs.Grown.{bit, Grown};
+ghost use Rattle.working.specs.Many.{AllUsed};
 ghost use Rattle.rules.specs.State.{isInner};
 ghost use Rattle.rules.specs.Label.{labelAt};
 ghost use Rattle.rules.specs.Group.{groups};
 ghost use Rattle.net.specs.Net.{nodesPlace, transistorsPlace, at as atPlace, netTransistor, netCircuit};
 ghost use Rattle.net.specs.Laid.{Laid};
-ghost use Rattle.prepare.specs.Steps.{Bits, one, disturbedBy, isConsidered, seedBy, seedNumber, differs, Active};
+ghost use Rattle.prepare.specs.Steps.{Bits, one, disturbedBy, isConsidered, seedBy, differs, Active, Seeds};
 use net::inner::is_inner;
 use table::Put;
 use table::Stop;
@@ -194,7 +193,7 @@ fn seed_nodes(
 ) -> Many
     requires { ⌜ Laid (netCircuit (now net)) (now net) ⌝ }
     requires { ⌜ Open k (now letter) (now low) (now high) (now index) used × AllUsed 26 changed used × Bits k (held (now letter) (now low) (now high) used) changed 26 ⌝ }
-    ensures { λ r. ⌜ (stopped (r .stop) ≡ false → Filled 26 k (held (now (letter .entry)) (now (low .entry)) (now (high .entry)) used) (λ n p. seedNumber (netCircuit (now (net .entry))) (firstNodeNumber + atPlace (now (net .entry)) nodesPlace) false only (λ m. one k (held (now (letter .entry)) (now (low .entry)) (now (high .entry)) used) (getD changed m 0) p) n) (now (letter .exit)) (now (low .exit)) (now (high .exit)) (now (index .exit)) (r .used) (r .entries)) × (stopped (r .stop) ≡ true → Crowded k (held (now (letter .entry)) (now (low .entry)) (now (high .entry)) used) (now (letter .exit)) (now (low .exit)) (now (high .exit)) (now (index .exit))) ⌝ }
+    ensures { λ r. ⌜ Seeds (now (net .entry)) k (held (now (letter .entry)) (now (low .entry)) (now (high .entry)) used) false only (λ p m. one k (held (now (letter .entry)) (now (low .entry)) (now (high .entry)) used) (getD changed m 0) p) (now (letter .exit)) (now (low .exit)) (now (high .exit)) (now (index .exit)) (r .stop) (r .used) (r .entries) ⌝ }
 {
     let count = net[net::NODES] + 2;
     let mut out = [0u32; 26];
@@ -257,7 +256,7 @@ pub fn seed_all(
     requires { ⌜ Laid (netCircuit (now net)) (now net) ⌝ }
     requires { ⌜ Legible k (now tletter) (now tlow) (now thigh) tused × AllUsed (firstNodeNumber + atPlace (now net) nodesPlace) before tused × AllUsed (firstNodeNumber + atPlace (now net) nodesPlace) after tused ⌝ }
     requires { ⌜ Open k (now letter) (now low) (now high) (now index) used ⌝ }
-    ensures { λ r. ⌜ (stopped (r .stop) ≡ false → Filled 26 k (held (now (letter .entry)) (now (low .entry)) (now (high .entry)) used) (λ n p. seedNumber (netCircuit (now (net .entry))) (firstNodeNumber + atPlace (now (net .entry)) nodesPlace) all only (differs (firstNodeNumber + atPlace (now (net .entry)) nodesPlace) k (held (now (tletter .entry)) (now (tlow .entry)) (now (thigh .entry)) tused) before after p) n) (now (letter .exit)) (now (low .exit)) (now (high .exit)) (now (index .exit)) (r .used) (r .entries)) × (stopped (r .stop) ≡ true → Crowded k (held (now (letter .entry)) (now (low .entry)) (now (high .entry)) used) (now (letter .exit)) (now (low .exit)) (now (high .exit)) (now (index .exit))) ⌝ }
+    ensures { λ r. ⌜ Seeds (now (net .entry)) k (held (now (letter .entry)) (now (low .entry)) (now (high .entry)) used) all only (differs (firstNodeNumber + atPlace (now (net .entry)) nodesPlace) k (held (now (tletter .entry)) (now (tlow .entry)) (now (thigh .entry)) tused) before after) (now (letter .exit)) (now (low .exit)) (now (high .exit)) (now (index .exit)) (r .stop) (r .used) (r .entries) ⌝ }
 {
     if all {
         return Many {

@@ -15,9 +15,10 @@ use Rattle.format.proofs.Legal.{LegalTransistor, LegalCell}
 use Rattle.rules.specs.State.{State, valueAt, isInner, nodeNumbers}
 use Rattle.rules.specs.Arrive.{changed}
 use Rattle.rules.specs.Label.{Labels, joined, join, betweenInner, linkFrom, pieces, inPiece, ofPiece, only}
-use Rattle.rules.specs.Group.{groups, inGroup, ofGroup}
-use Rattle.rules.specs.Kept.{Channel, conducts, carriers, keeps, afterKept, keptFrom, kept}
-use Rattle.rules.specs.Reach.{conductsAround, reach, inputChanged, disturbed, touched, isSeed}
+use Rattle.rules.specs.Group.{groups, inGroup, ofGroup, isSeed}
+use Rattle.rules.specs.Kept.{Channel, conducts, keeps, afterKept, keptFrom, kept}
+use Rattle.rules.specs.Matrix.{carriers}
+use Rattle.rules.specs.Reach.{conductsAround, reach, inputChanged, disturbed, touched}
 use Rattle.rules.proofs.Forest.{kept-skips, kept-joins, kept-ends}
 use Rattle.rules.proofs.Label.{IsNode, AllLegal, all-legal, inner-node, Joined, joined-refl, joined-trans, join-joined, first-joined, Linked, Linked·same, Linked·over, linked-more, pieces-join, pieces-exactly, groups-join, some-found, some-passes, only-of, only-in}
 

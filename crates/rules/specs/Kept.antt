@@ -1,6 +1,6 @@
 -- Step rule 3: which transistors conduct, and which of those are kept.
 use Prim.Native.Nat.{ℕ, suc, _-_}
-use mathlib.Core.List.{List, [], _∷_, map}
+use mathlib.Core.List.{List, [], _∷_}
 use mathlib.Core.Bool.{Bool, not, _&&_, cond}
 use lib.Dec.{eqb}
 use Rattle.format.specs.declared.Transistor.{Transistor}
@@ -16,10 +16,6 @@ conducts s t = eqb (valueAt s (t .gate)) (1 - t .polarity)
 pub record Channel : Type 0 where
   pub number : ℕ
   pub transistor : Transistor
-
--- the transistors of some channels
-abbrev pub carriers : List Channel → List Transistor
-carriers ks = map (λ (k : Channel). k .transistor) ks
 
 -- a conducting transistor is broken if its two ends are inner nodes that kept ones have joined already
 abbrev pub keeps : Circuit → State → Labels → Transistor → Bool

@@ -2,6 +2,7 @@
 -- its own: for the nodes of a group whose transistors are all looked at, the same ones are kept (law `group-kept`).
 use Prim.Native.Nat.{ℕ, zero, suc}
 use mathlib.Core.Bool.{Bool, not, _&&_, _||_}
+use mathlib.Core.List.{List, map}
 use lib.ListN.{getD}
 use lib.Dec.{eqb}
 use Rattle.format.specs.declared.Transistor.{Transistor}
@@ -9,6 +10,10 @@ use Rattle.format.specs.Circuit.{Circuit, noTransistor}
 use Rattle.rules.specs.State.{State}
 use Rattle.rules.specs.Label.{betweenInner, some}
 use Rattle.rules.specs.Kept.{Channel, conducts, kept}
+
+-- the transistors of some channels
+abbrev pub carriers : List Channel → List Transistor
+carriers ks = map (λ (k : Channel). k .transistor) ks
 
 -- transistor i is kept
 unfoldable pub isKept : Circuit → State → ℕ → Bool

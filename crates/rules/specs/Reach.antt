@@ -5,7 +5,7 @@ use mathlib.Core.Bool.{Bool, _&&_, _||_}
 use Rattle.format.specs.declared.Transistor.{Transistor}
 use Rattle.format.specs.Circuit.{Circuit}
 use Rattle.format.specs.Legal.{isInput}
-use Rattle.rules.specs.State.{State, isInner, nodeNumbers}
+use Rattle.rules.specs.State.{State, isInner}
 use Rattle.rules.specs.Arrive.{changed}
 use Rattle.rules.specs.Label.{Labels, pieces, ofPiece, some, only}
 use Rattle.rules.specs.Kept.{conducts}
@@ -30,10 +30,6 @@ disturbed c before after t =
 -- n's piece holds an inner node at an end of a disturbed transistor; n itself may be that node
 unfoldable pub touched : Circuit → Labels → State → State → ℕ → Bool
 touched c ls before after n = some (λ (t : Transistor). ofPiece c ls n t && disturbed c before after t) (c .transistors)
-
--- a seed: an inner node that is itself at an end of a disturbed transistor, each node being a piece of its own
-abbrev pub isSeed : Circuit → State → State → ℕ → Bool
-isSeed c before after n = touched c (nodeNumbers c) before after n
 
 -- the nodes that a step reconsiders
 abbrev pub reconsidered : Circuit → State → State → ℕ → Bool

@@ -94,7 +94,7 @@ module _ (t : ℕ) where
   returns : down-lts.Need-returns (claims t) (down-at t) down.Post
   returns c =
       let s = c .before .before .before .before .before .before .before .before .before .before .before .before .before .before .before .before .before .before .before .before .before .before .before .before .before in
-      let d = quiet-stored (s .pre .1 .0) (c .before .before .before .before .before .before .before .before .before .before .before .before .before .before .before .some-seed .ensures (not-true _ (c .before .before .before .before .before .before .before .before .before .before .before .before .before .before .if1 .taken))) (s .args .time) (c .before .before .before .before .before .before .before .before .quiet .ensures) in
+      let d = quiet-stored (s .pre .1 .0) (c .before .before .before .before .before .before .before .before .before .before .before .before .before .before .before .some-seed .ensures .0 (not-true _ (c .before .before .before .before .before .before .before .before .before .before .before .before .before .before .if1 .taken))) (s .args .time) (c .before .before .before .before .before .before .before .before .quiet .ensures) in
       (d, stored-memo (s .pre .1 .0) (s .args .time) (s .pre .1 .1 .1 .0) d (s .pre .1 .1 .1 .1))
 
   narrow-requires : down-lts.Need-narrow-requires (claims t) (down-at t) down.Post
@@ -127,7 +127,7 @@ module _ (t : ℕ) where
   returns-2 : down-lts.Need-returns-2 (claims t) (down-at t) down.Post
   returns-2 c =
       let s = c .before .before .before .before .before .before .before .before .before .before .before .before .before .before .before .before .before .before .before .before .before .before .before .before .before .before .before .before .before .before .before .before in
-      let d = narrow-quiet (s .pre .1 .0) (c .before .before .before .before .before .before .before .before .before .before .before .before .before .before .before .before .before .before .narrow .ensures .0) (c .before .before .before .before .before .before .before .before .before .before .before .before .before .before .some-seed2 .ensures (not-true _ (c .before .before .before .before .before .before .before .before .before .before .before .before .before .if3 .taken))) (s .args .time) (c .before .before .before .before .before .before .before .before .quiet2 .ensures) in
+      let d = narrow-quiet (s .pre .1 .0) (c .before .before .before .before .before .before .before .before .before .before .before .before .before .before .before .before .before .before .narrow .ensures .0) (c .before .before .before .before .before .before .before .before .before .before .before .before .before .before .some-seed2 .ensures .0 (not-true _ (c .before .before .before .before .before .before .before .before .before .before .before .before .before .if3 .taken))) (s .args .time) (c .before .before .before .before .before .before .before .before .quiet2 .ensures) in
       (d, stored-memo (s .pre .1 .0) (s .args .time) (s .pre .1 .1 .1 .0) d (s .pre .1 .1 .1 .1))
 
   least-live-requires : down-lts.Need-least-live-requires (claims t) (down-at t) down.Post
