@@ -21,8 +21,6 @@ const FIRST_NODE_NUMBER: u8 = 2;
 
 const MOST_CAPACITANCE: u64 = 65535;
 
-const MOST_RESISTANCE: u64 = 1000000;
-
 fn within(least: u64, most: u64, x: u64) -> bool
     ensures { λ r. ⌜ r ≡ defined.within least most x ⌝ }
 {
@@ -74,7 +72,7 @@ fn transistor_legal(nodes: u32, t: Transistor) -> bool
         & node_number(nodes, t.first)
         & node_number(nodes, t.second)
         & (t.first != t.second)
-        & within(1, MOST_RESISTANCE, t.resistance.0 as u64)
+        & within(1, Cell::MOST_RESISTANCE, t.resistance.0 as u64)
 }
 
 fn is_input(cell: Cell, n: u8) -> bool

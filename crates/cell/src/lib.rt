@@ -43,6 +43,9 @@ impl Cell {
 
     pub const MOST_HORIZON: u64 = 1000000;
 
+    // Ohms of the weakest transistor.
+    pub const MOST_RESISTANCE: u64 = 240000;
+
     pub const MOST_BYTES: usize = size::RECORD_SIZE
         * (1 + Cell::MOST_NODES + Cell::MOST_TRANSISTORS + Cell::MOST_ENTRIES) as usize;
 

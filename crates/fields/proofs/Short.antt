@@ -8,7 +8,7 @@ use native.Mathlib.Omega.{arith}
 use lib.Dec.{eqb}
 use lib.ListN.{length, length-append}
 use Rattle.refusal.specs.declared.Refusal.{Refusal}
-use Rattle.refusal.specs.declared.Refusal.the-variants.{Length, Header, Chain, Record, Order, Full, Unsound, Buffer, Question, Finished}
+use Rattle.refusal.specs.declared.Refusal.the-variants.{Length, Header, Chain, Record, Order, Full, Unsound, Buffer, Question, Finished, Ceiling}
 use Rattle.refusal.specs.Number.{refusalNumber}
 use Rattle.format.specs.declared.Header as header
 use Rattle.format.specs.declared.Node.{Node}
@@ -39,6 +39,7 @@ number-small Unsound = omega arith
 number-small Buffer = omega arith
 number-small Question = omega arith
 number-small Finished = omega arith
+number-small Ceiling = omega arith
 
 pub refused-short : (why : Refusal) → length (refusedLine why) ≤ lineRoom
 unfolding refusedLine

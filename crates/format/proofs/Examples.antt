@@ -94,13 +94,18 @@ chainDamages =
 abbrev fieldDamages : List Damage
 fieldDamages =
     (20, 2, 4) ∷ (20, 0, 4) ∷ (21, 6, 4) ∷ (21, 5, 0) ∷ (22, 1, 4) ∷ (36, 1, 4) ∷ (37, 6, 4) ∷ (38, 0, 4) ∷ (38, 1, 0)
-    ∷ (52, 2, 4) ∷ (53, 4, 4) ∷ (54, 4, 4) ∷ (54, 3, 4) ∷ (55, 4, 4) ∷ (55, 1, 4) ∷ (58, 16, 4) ∷ (58, 15, 0)
+    ∷ (52, 2, 4) ∷ (53, 4, 4) ∷ (54, 4, 4) ∷ (54, 3, 4) ∷ (55, 4, 4) ∷ (55, 1, 4) ∷ (58, 4, 4) ∷ (58, 3, 0)
     ∷ (84, 0, 4) ∷ (84, 1, 4) ∷ (84, 3, 4) ∷ (84, 4, 4) ∷ (85, 6, 4) ∷ (88, 0, 4) ∷ (89, 4, 4) ∷ (89, 3, 0) ∷ []
 
 -- each damage of the inverter is answered as stated
 damages-refused : (every (asStated inverter) headerDamages ≡ true) × (every (asStated inverter) chainDamages ≡ true) × (every (asStated inverter) fieldDamages ≡ true)
 unfolding number every
 damages-refused = (refl, refl, refl)
+
+-- the weakest transistor, 0x03a980 = 240,000 ohm, is read; one ohm more is not (document 02, wish 3)
+weakest : (number (set (set (set inverter 56 128) 57 169) 58 3) ≡ 0) × (number (set (set (set inverter 56 129) 57 169) 58 3) ≡ 4)
+unfolding number
+weakest = (refl, refl)
 
 -- the bytes that are not named: of the header, then of the five records
 abbrev headerBlanks : List ℕ
@@ -200,8 +205,8 @@ no-schedule-saved : (saved 80 noEntries ≡ answered noEntries) × (take 2 (drop
 unfolding saved
 no-schedule-saved = (refl, refl)
 
--- numbers of more than one byte stay: a horizon of 0x0f03e8, a resistance of 0x0f07d0, a time of 0x0003c8
-numbers-saved : saved 96 (set (set (set inverter 6 15) 58 15) 89 3) ≡ answered (set (set (set inverter 6 15) 58 15) 89 3)
+-- numbers of more than one byte stay: a horizon of 0x0f03e8, a resistance of 0x0307d0, a time of 0x0003c8
+numbers-saved : saved 96 (set (set (set inverter 6 15) 58 3) 89 3) ≡ answered (set (set (set inverter 6 15) 58 3) 89 3)
 unfolding saved
 numbers-saved = refl
 

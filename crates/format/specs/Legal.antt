@@ -1,7 +1,7 @@
 -- The check of a cell: refusal 2 (counts, letters, horizon), 4 (any other field), 5 (the schedule's order), in that order.
 use Prim.Native.Nat.{ℕ, _+_}
 use mathlib.Core.List.{List, [], _∷_}
-use mathlib.Core.Bool.{Bool, true, false, not, _&&_, _||_, cond}
+use mathlib.Core.Bool.{Bool, true, not, _&&_, _||_, cond}
 use lib.ListN.{length}
 use lib.Dec.{leb, ltb, eqb}
 use Rattle.refusal.specs.declared.Refusal.the-variants.{Header, Record, Order}
@@ -32,8 +32,9 @@ mostHorizon = 1000000
 abbrev pub mostCapacitance : ℕ
 mostCapacitance = 65535
 
+-- document 02, wish 3: the weakest transistor there is
 abbrev pub mostResistance : ℕ
-mostResistance = 1000000
+mostResistance = 240000
 
 abbrev pub within : ℕ → ℕ → ℕ → Bool
 within least most x = leb least x && leb x most

@@ -1,10 +1,10 @@
 // The numbers given to the editor: why a call is refused, and what it is answered where it carries nothing else.
-// Promise: every refusal and every reply has document 01's number, by one definition (specs/Number.antt).
+// Promise: every refusal and every reply has its number of document 01, as document 02 adds to them, by one definition (specs/Number.antt).
 // Knows nothing of cells, tables or runs.
 ghost use mathlib.Core.Path.{_≡_};
 ghost use Rattle.refusal.specs.Number.{refusalNumber, replyNumber};
 
-// The conditions of document 01's table "Numbers given to the editor", by its trade words.
+// The conditions of document 01's table "Numbers given to the editor", by its trade words, and document 02's.
 pub enum Refusal {
     Length,
     Header,
@@ -16,6 +16,7 @@ pub enum Refusal {
     Buffer,
     Question,
     Finished,
+    Ceiling,
 }
 
 // The answer of a call that gives nothing besides.
@@ -38,6 +39,7 @@ pub fn refusal_number(why: Refusal) -> u32
         Refusal::Buffer => 8,
         Refusal::Question => 9,
         Refusal::Finished => 10,
+        Refusal::Ceiling => 11,
     }
 }
 

@@ -1,15 +1,19 @@
 -- Laws of the arithmetic of step rules 4 to 6. Those of division rounded up stand in Rounding.
-use mathlib.Core.Path.{_≡_, refl, ap, subst, subst₂}
-use Prim.Native.Nat.{ℕ, _+_, _*_, _-_, _^_, _≤_, _<_, max}
+use mathlib.Core.Path.{_≡_, refl, sym, ap, subst, subst₂}
+use mathlib.Core.Bool.{Bool, true, false}
+use Prim.Native.Nat.{ℕ, suc, _+_, _*_, _-_, _^_, _≤_, _<_, max}
 use native.Mathlib.Nat.{add-comm, mul-comm, mul-pos, le-trans, le-refl}
 use native.Mathlib.Omega.{arith}
+use borrow.Author.Tests.{ltb-false, le-ltb}
 use Rattle.units.specs.declared.Ohms.{Ohms}
 use Rattle.units.specs.declared.Femtofarads.{Femtofarads}
 use Rattle.units.specs.declared.Resistance.{Resistance}
 use Rattle.units.specs.declared.Resistance.the-variants.{Infinite, Finite}
+use Rattle.units.specs.declared.Bounded.{Bounded}
+use Rattle.units.specs.declared.Bounded.the-variants.{Within, Exceeds}
 use Rattle.units.specs.Units.{ohms, femtofarads}
-use Rattle.units.specs.Rules.{ceilDiv, ceiling, capped, parallel, armSide, share, delay}
-use Rattle.units.specs.Range.{AtLeast, AtMost, Positive, InRange, Divisible}
+use Rattle.units.specs.Rules.{ceilDiv, ceiling, above, bounded, parallel, armSide, delayArm, share, delay}
+use Rattle.units.specs.Range.{AtLeast, AtMost, Positive, Divisible}
 use Rattle.units.proofs.Rounding.{ceilDiv-least, ceilDiv-factor, ceilDiv-positive, ceilDiv-at-most, product-within}
 
 -- a finite resistance is never infinite
@@ -93,24 +97,17 @@ pub parallel-at-most : (n : ℕ) (a b : Resistance) → AtMost n a → AtMost n 
 parallel-at-most n Infinite b p q = rw (parallel-infinite-left b) q
 parallel-at-most n (Finite a) b p q = at-most-weaken (parallel (Finite a) b) p (parallel-at-most-left a b)
 
--- and so two of an arm's range stay in it
-pub parallel-in-range : (a b : Resistance) → InRange a → InRange b → InRange (parallel a b)
-parallel-in-range a b p q = record {
-  positive = parallel-positive a b (p .positive) (q .positive);
-  atMost = parallel-at-most ceiling a b (p .atMost) (q .atMost);
-}
-
 -- an arm's side is infinite where the far node's is
 pub armSide-infinite : (r : Ohms) (other : Resistance) → armSide r Infinite other ≡ Infinite
 unfolding armSide
 armSide-infinite r other = refl
 
 -- before a node with no other side, r is added
-pub armSide-series : (r side : Ohms) → armSide r (Finite side) Infinite ≡ capped (side .0 + r .0)
+pub armSide-series : (r side : Ohms) → armSide r (Finite side) Infinite ≡ Finite (ohms (side .0 + r .0))
 unfolding armSide
 armSide-series r side = refl
 
--- where the far node's side is finite the arm's is, capped or not
+-- where the far node's side is finite the arm's is
 pub armSide-finite : (r side : Ohms) (other : Resistance) → (n : Ohms) × (armSide r (Finite side) other ≡ Finite n)
 unfolding armSide
 armSide-finite r side Infinite = (_, refl)
@@ -123,26 +120,32 @@ armSide-infinite-only r Infinite other e = refl
 armSide-infinite-only r (Finite side) Infinite e = absurd (finite-not-infinite e)
 armSide-infinite-only r (Finite side) (Finite other) e = absurd (finite-not-infinite e)
 
--- an arm's side is at most the ceiling
-pub armSide-at-most : (r : Ohms) (side other : Resistance) → AtMost ceiling (armSide r side other)
+-- an arm's side is at least r
+pub armSide-at-least : (n : ℕ) (r : Ohms) (side other : Resistance) → n ≤ r .0 → AtLeast n (armSide r side other)
 unfolding armSide
-armSide-at-most r Infinite other = tt
-armSide-at-most r (Finite side) Infinite = omega arith
-armSide-at-most r (Finite side) (Finite other) = omega arith
+armSide-at-least n r Infinite other h = tt
+armSide-at-least n r (Finite side) Infinite h = omega arith
+armSide-at-least n r (Finite side) (Finite other) h = omega arith
 
--- an arm's side is at least r, up to the ceiling
-pub armSide-at-least : (n : ℕ) (r : Ohms) (side other : Resistance) → n ≤ r .0 → n ≤ ceiling → AtLeast n (armSide r side other)
+-- what is not above the ceiling is at most the ceiling
+pub not-above : (a : Resistance) → above a ≡ false → AtMost ceiling a
+not-above Infinite e = tt
+not-above (Finite a) e = ltb-false ceiling (a .0) e
+
+-- and the other way round
+pub at-most-ceiling : (a : Resistance) → AtMost ceiling a → above a ≡ false
+at-most-ceiling Infinite h = refl
+at-most-ceiling (Finite a) h = le-ltb ceiling (a .0) h
+
+-- Which operations can exceed: an arm of the node sum. Two in parallel can't where neither does.
+pub parallel-within : (a b : Resistance) → above a ≡ false → above b ≡ false → above (parallel a b) ≡ false
+parallel-within a b p q = at-most-ceiling (parallel a b) (parallel-at-most ceiling a b (not-above a p) (not-above b q))
+
+-- Neither can an arm of the delay walk: r of at most m ohms adds no more than m. So n of them in a row stay within n × m.
+pub delayArm-at-most : (m n : ℕ) (r : Ohms) (far : Resistance) → r .0 ≤ m → AtMost (m * n) far → AtMost (m * suc n) (delayArm r far)
 unfolding armSide
-armSide-at-least n r Infinite other h k = tt
-armSide-at-least n r (Finite side) Infinite h k = omega arith
-armSide-at-least n r (Finite side) (Finite other) h k = omega arith
-
--- an arm's sides are in range where r is not 0
-pub armSide-in-range : (r : Ohms) (side other : Resistance) → 1 ≤ r .0 → InRange (armSide r side other)
-armSide-in-range r side other h = record {
-  positive = armSide-at-least 1 r side other h (omega arith);
-  atMost = armSide-at-most r side other;
-}
+delayArm-at-most m n r Infinite h p = tt
+delayArm-at-most m n r (Finite far) h p = omega arith
 
 -- all of the charge is passed on where nothing leads to the value
 pub share-infinite : (r : Ohms) (c : Femtofarads) → share r Infinite c ≡ c
@@ -181,3 +184,27 @@ pub delay-within : (r : Ohms) (c : Femtofarads) → r .0 < 2 ^ 32 → c .0 < 2 ^
 unfolding delay
 delay-within r c p h =
     omega (arith, ceilDiv-least {a = r .0 * c .0} {c = 2 ^ 55 - 1} 1000 (omega (arith, product-within {a = r .0} {b = c .0} (omega arith) h)))
+
+within-not-exceeds : {r : Resistance} → Within r ≡ Exceeds → ⊥
+within-not-exceeds e = let z : _≡_ {A = ℕ} 0 1 = cc in omega arith
+
+-- the result of an operation that gives one
+abbrev payload : Bounded → Resistance
+payload (Within r) = r
+payload Exceeds = Infinite
+
+-- an operation that says it exceeds has a result above the ceiling
+pub bounded-exceeds : (r : Resistance) → bounded r ≡ Exceeds → above r ≡ true
+bounded-exceeds r e = by (above r) refl
+  where
+    by : (b : Bool) → above r ≡ b → above r ≡ true
+    by true p = p
+    by false p = let z : Within r ≡ Exceeds = rw p at e in absurd (within-not-exceeds z)
+
+-- one that gives a result gives its own, which is not above the ceiling
+pub bounded-within : (r : Resistance) {x : Resistance} → bounded r ≡ Within x → (x ≡ r) × (above r ≡ false)
+bounded-within r {x} e = by (above r) refl
+  where
+    by : (b : Bool) → above r ≡ b → (x ≡ r) × (above r ≡ false)
+    by true p = let z : Exceeds ≡ Within x = rw p at e in absurd (within-not-exceeds (sym z))
+    by false p = let z : Within r ≡ Within x = rw p at e in (sym (ap payload z), p)

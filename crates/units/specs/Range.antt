@@ -2,7 +2,6 @@
 use Prim.Native.Nat.{ℕ, _≤_}
 use Rattle.units.specs.declared.Resistance.{Resistance}
 use Rattle.units.specs.declared.Resistance.the-variants.{Infinite, Finite}
-use Rattle.units.specs.Rules.{ceiling}
 
 abbrev pub AtLeast : ℕ → Resistance → Type 0
 AtLeast n Infinite = Unit
@@ -20,8 +19,3 @@ Positive r = AtLeast 1 r
 abbrev pub Divisible : Resistance → Resistance → Type 0
 Divisible Infinite other = Unit
 Divisible (Finite a) other = Positive other
-
--- what an arm can have: 1 ohm to the ceiling
-pub record InRange (r : Resistance) : Type 0 where
-  pub positive : Positive r
-  pub atMost : AtMost ceiling r

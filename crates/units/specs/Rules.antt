@@ -1,22 +1,32 @@
--- The arithmetic of document 01's step rules 4 to 7.
-use Prim.Native.Nat.{ℕ, _+_, _-_, _*_, _/_, min, max}
+-- The arithmetic of document 01's step rules 4 to 7, as document 02's wish 3 amends it: nothing is capped.
+use Prim.Native.Nat.{ℕ, _+_, _-_, _*_, _/_, max}
+use mathlib.Core.Bool.{Bool, false, cond}
+use lib.Dec.{ltb}
 use Rattle.units.specs.declared.Ohms.{Ohms}
 use Rattle.units.specs.declared.Femtofarads.{Femtofarads}
 use Rattle.units.specs.declared.Picoseconds.{Picoseconds}
 use Rattle.units.specs.declared.Resistance.{Resistance}
 use Rattle.units.specs.declared.Resistance.the-variants.{Infinite, Finite}
+use Rattle.units.specs.declared.Bounded.{Bounded}
+use Rattle.units.specs.declared.Bounded.the-variants.{Within, Exceeds}
 use Rattle.units.specs.Units.{ohms, femtofarads, picoseconds}
 
 -- a / b, rounded up
 unfoldable pub ceilDiv : ℕ → ℕ → ℕ
 ceilDiv a b = (a + (b - 1)) / b
 
--- Rule 4: the most ohms of a finite result. A finite resistance stays finite: it becomes the ceiling and is used so from there on.
+-- Rule 4, by wish 3: the most ohms of a finite result
 abbrev pub ceiling : ℕ
 ceiling = 1000000000
 
-abbrev pub capped : ℕ → Resistance
-capped n = Finite (ohms (min n ceiling))
+-- a finite resistance above the ceiling; at the ceiling it is not above it
+abbrev pub above : Resistance → Bool
+above Infinite = false
+above (Finite a) = ltb ceiling (a .0)
+
+-- what an operation says of its result: the result itself, or that it would exceed the ceiling
+abbrev pub bounded : Resistance → Bounded
+bounded r = cond (above r) Exceeds (Within r)
 
 -- Rule 4: two resistances in parallel, infinite being neutral
 unfoldable pub parallel : Resistance → Resistance → Resistance
@@ -28,14 +38,14 @@ parallel (Finite a) (Finite b) = Finite (ohms (ceilDiv (a .0 * b .0) (a .0 + b .
 -- its other side: an arm's high side is armSide r high low, its low side armSide r low high, both of the sum as it was.
 unfoldable pub armSide : Ohms → Resistance → Resistance → Resistance
 armSide r Infinite other = Infinite
-armSide r (Finite side) Infinite = capped (side .0 + r .0)
-armSide r (Finite side) (Finite other) = capped (side .0 + r .0 + ceilDiv (r .0 * side .0) (other .0))
+armSide r (Finite side) Infinite = Finite (ohms (side .0 + r .0))
+armSide r (Finite side) (Finite other) = Finite (ohms (side .0 + r .0 + ceilDiv (r .0 * side .0) (other .0)))
 
 -- Rules 4 and 6: charges joined
 abbrev pub joined : Femtofarads → Femtofarads → Femtofarads
 joined a b = femtofarads (a .0 + b .0)
 
--- Rule 6: the resistance of an arm of the delay walk: R + r, with the ceiling of rule 4
+-- Rule 6: the resistance of an arm of the delay walk: R + r
 abbrev pub delayArm : Ohms → Resistance → Resistance
 delayArm r far = armSide r far Infinite
 

@@ -1,10 +1,12 @@
-// Ohms, femtofarads and picoseconds as types of their own, and the arithmetic of step rules 4 to 7 (document 01).
+// Ohms, femtofarads and picoseconds as types of their own, and the arithmetic of step rules 4 to 7 (document 01; document 02, wish 3).
 // Promise: each operation gives what its definition in specs/Rules.antt says; resistance, capacitance and time meet only in `delay`.
-// Infinite resistance is a case of its own and never a number. Work is done in 64 bits.
+// Infinite resistance is a case of its own and never a number; an arm that would exceed the ceiling says so. Work is done in 64 bits.
 ghost use mathlib.Core.Path.{_≡_};
 ghost use Prim.Native.Nat.{_+_, _*_, _^_, _≤_, _<_};
-ghost use Rattle.units.specs.Range.{Positive, Divisible};
-ghost use Rattle.units.specs.Rules.{ceilDiv, armSide, delayArm, capped as cappedOf, parallel as parallelOf, joined as joinedOf, later as laterOf, share as shareOf, delay as delayOf};
+ghost use Rattle.units.specs.declared.Resistance.the-variants.{Finite};
+ghost use Rattle.units.specs.Units.{ohms};
+ghost use Rattle.units.specs.Range.{AtMost, Positive, Divisible};
+ghost use Rattle.units.specs.Rules.{ceilDiv, ceiling, bounded as boundedOf, armSide, delayArm, parallel as parallelOf, joined as joinedOf, later as laterOf, share as shareOf, delay as delayOf};
 
 pub struct Ohms(pub u32);
 
@@ -31,6 +33,12 @@ impl Picoseconds {
 pub enum Resistance {
     Infinite,
     Finite(Ohms),
+}
+
+// What an arm says of a side: its resistance, or that this would exceed the ceiling.
+pub enum Bounded {
+    Within(Resistance),
+    Exceeds,
 }
 
 impl Resistance {
@@ -62,26 +70,30 @@ impl Femtofarads {
 }
 
 // One side of an arm: a transistor of resistance r before a node sum of which `side` is the same side and `other` the other one.
-pub fn arm_side(r: Ohms, side: Resistance, other: Resistance) -> Resistance
+pub fn arm_side(r: Ohms, side: Resistance, other: Resistance) -> Bounded
     requires { ⌜ Divisible side other ⌝ }
-    ensures { λ result. ⌜ result ≡ armSide r side other ⌝ }
+    ensures { λ result. ⌜ result ≡ boundedOf (armSide r side other) ⌝ }
 {
     match side {
-        Resistance::Infinite => Resistance::Infinite,
+        Resistance::Infinite => Bounded::Within(Resistance::Infinite),
         Resistance::Finite(s) => match other {
-            Resistance::Infinite => capped((s.0 as u64) + (r.0 as u64)),
-            Resistance::Finite(o) => capped(
+            Resistance::Infinite => within_ceiling((s.0 as u64) + (r.0 as u64)),
+            Resistance::Finite(o) => within_ceiling(
                 (s.0 as u64) + (r.0 as u64) + scaled(r.0, s.0, o.0 as u64),
             ),
         },
     }
 }
 
-// The resistance of an arm of the delay walk.
+// The resistance of an arm of the delay walk: operands up to the ceiling leave it within 32 bits.
 pub fn delay_arm(r: Ohms, far: Resistance) -> Resistance
+    requires { ⌜ (r .0 ≤ ceiling) × AtMost ceiling far ⌝ }
     ensures { λ result. ⌜ result ≡ delayArm r far ⌝ }
 {
-    arm_side(r, far, Resistance::Infinite)
+    match far {
+        Resistance::Infinite => Resistance::Infinite,
+        Resistance::Finite(f) => Resistance::Finite(Ohms(f.0 + r.0)),
+    }
 }
 
 // What an arm of resistance r passes on of the far charge.
@@ -108,15 +120,15 @@ pub fn delay(r: Ohms, charge: Femtofarads) -> Picoseconds
     Picoseconds(1)
 }
 
-// A number of ohms, brought down to the ceiling.
-fn capped(n: u64) -> Resistance
-    ensures { λ r. ⌜ r ≡ cappedOf n ⌝ }
+// A number of ohms, unless it exceeds the ceiling.
+fn within_ceiling(n: u64) -> Bounded
+    ensures { λ r. ⌜ r ≡ boundedOf (Finite (ohms n)) ⌝ }
 {
     let most = Ohms::CEILING;
-    if n < most as u64 {
-        return Resistance::Finite(Ohms(n as u32));
+    if n <= most as u64 {
+        return Bounded::Within(Resistance::Finite(Ohms(n as u32)));
     }
-    Resistance::Finite(Ohms(most))
+    Bounded::Exceeds
 }
 
 // a * b / c, rounded up. At the largest a, b and c the dividend is the largest number of 64 bits.
