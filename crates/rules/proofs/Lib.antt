@@ -10,6 +10,7 @@ pub mod Admitted
 pub mod RunSteps
 pub mod Cases
 pub mod Mistakes
+pub mod Ceiling
 pub mod Opened
 pub mod Label
 pub mod Reach
@@ -20,3 +21,4 @@ pub mod Local
 pub mod Sharing
 pub mod Behind
 pub mod Matrix
+pub mod Nodes

@@ -16,7 +16,7 @@ use Rattle.rules.specs.Label.{only}
 use Rattle.rules.specs.Kept.{Channel}
 use Rattle.rules.specs.Sum.{Sum, leads, farEnd, overArms, drivenSum, ownSum, nodeSum, undriven}
 use Rattle.rules.specs.Delay.{Load, drivenLoad, ownLoad, nodeLoad, inOhms}
-use Rattle.rules.specs.Step.{target, delayBy, delayTo, nextChange}
+use Rattle.rules.specs.Step.{target, exceeds, delayBy, delayTo, nextChange}
 use Rattle.rules.proofs.Label.{only-of}
 use Rattle.rules.proofs.Walk.{Rule, walk, sumRule, loadRule, sum-walk, load-walk, walk-end, arms-same, Ends, leads-ends, ends-far}
 
@@ -143,6 +143,11 @@ module _ {c : Circuit} {P : ℕ → Bool} {s z : State} {ks js : List Channel} (
     pub target-local : target c s ks n ≡ target c z js n
     unfolding target
     target-local = rw (sum-local (length (c .nodes)) none n p, h .values n p)
+
+    -- its walk exceeds the ceiling in both or in neither
+    pub exceeds-local : exceeds c s ks n ≡ exceeds c z js n
+    unfolding exceeds
+    exceeds-local = ap (λ (sum : Sum). sum .exceeds) (sum-local (length (c .nodes)) none n p)
 
     -- with the same delay
     pub delay-local : (new : ℕ) → delayTo c s ks new n ≡ delayTo c z js new n

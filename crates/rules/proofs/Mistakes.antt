@@ -1,6 +1,7 @@
 -- Mistakes near at hand, each shut out by a small cell that it would compute otherwise. What is expected was worked out by hand from
 -- document 01; the comments say how, and what the mistake would give.
 use mathlib.Core.Path.{_≡_, refl}
+use mathlib.Core.Bool.{false}
 use mathlib.Core.List.{List, [], _∷_, _++_, map}
 use Prim.Native.Nat.{ℕ}
 use Rattle.units.specs.declared.Resistance.the-variants.{Infinite, Finite}
@@ -13,7 +14,7 @@ use Rattle.rules.specs.Kept.{Channel, kept}
 use Rattle.rules.specs.Sum.{newValue}
 use Rattle.rules.specs.Step.{initial}
 use Rattle.rules.specs.Run.{startMoment}
-use Rattle.rules.specs.Cases.{ground, supply, low, high, letter, complement, input, inner, nType, pType, at, cell, newValues}
+use Rattle.rules.specs.Cases.{ground, supply, low, high, letter, complement, input, inner, nType, pType, at, cell}
 use Rattle.rules.proofs.Opened.{opened}
 use Rattle.rules.proofs.Examples.{line, listing}
 
@@ -73,14 +74,14 @@ pub cut-off-keeps :
 unfolding listing
 cut-off-keeps = refl
 
--- Reach through an input. Input 7 is high and always joined to nodes 5 and 6, to node 5 over 1,000,000 ohm. Node 5 is to rise at 95 + 210 = 305: 1100
--- ohm beside 1,000,000 are 1099, with 191 fF. At 101 the input 2 gates a transistor of node 6, which leads to node 5 only through input 7.
+-- Reach through an input. Input 7 is high and always joined to nodes 5 and 6, to node 5 over 240,000 ohm. Node 5 is to rise at 95 + 210 = 305: 1100
+-- ohm beside 240,000 are 1095, with 191 fF. At 101 the input 2 gates a transistor of node 6, which leads to node 5 only through input 7.
 -- Reconsidered, node 5 would rise at 101 + 110 = 211.
 abbrev beyondInput : Circuit
 beyondInput =
     cell 0
     (input low ∷ input low ∷ inner low 100 ∷ inner low 100 ∷ inner high 10 ∷ input high ∷ [])
-    (pType ground supply 4 1000 ∷ nType 3 4 5 100 ∷ nType supply 7 5 1000000 ∷ nType supply 7 6 10 ∷ nType 2 supply 6 10 ∷ [])
+    (pType ground supply 4 1000 ∷ nType 3 4 5 100 ∷ nType supply 7 5 240000 ∷ nType supply 7 6 10 ∷ nType 2 supply 6 10 ∷ [])
     (at 95 3 high ∷ at 101 2 high ∷ [])
 
 pub input-leads-nowhere :
@@ -265,29 +266,14 @@ pub ring-kept : keptNumbers ring ≡ 0 ∷ 1 ∷ 3 ∷ []
 unfolding keptNumbers
 ring-kept = refl
 
--- Taking the ceiling of resistance for infinite.
--- Node 3 has 1,000,000 ohm to supply and 1 to ground. Its arm of 999,000: high is far above the ceiling and becomes 1,000,000,000,
--- low is 1 + 999,000 + 1 = 999,002. Node 2 joins 999,500 to supply: 1,000,000,000 beside 999,500 is 998,502, less than 999,002: high.
--- Were the ceiling infinite, or were there none, 999,500 would be left for high, more than 999,002: low.
-abbrev nearCeiling : Circuit
-nearCeiling =
-    cell 0
-    (inner low 1 ∷ inner low 1 ∷ [])
-    (pType ground supply 3 1000000 ∷ nType supply ground 3 1 ∷ nType supply 2 3 999000 ∷ pType ground supply 2 999500 ∷ [])
-    []
-
-pub ceiling-is-finite : newValues nearCeiling 0 ≡ 1 ∷ 0 ∷ []
-unfolding opened newValues
-ceiling-is-finite = refl
-
--- a side at the ceiling drives, whatever the charges
+-- Taking the ceiling of resistance for infinite. What lies above it is refused (Ceiling.antt); at the ceiling a side drives, whatever the charges.
 pub ceiling-drives-high :
-    newValue (record { high = Finite (ohms ceiling); low = Infinite; highCharge = femtofarads 0; lowCharge = femtofarads 1 }) 0 ≡ 1
+    newValue (record { high = Finite (ohms ceiling); low = Infinite; highCharge = femtofarads 0; lowCharge = femtofarads 1; exceeds = false }) 0 ≡ 1
 unfolding newValue
 ceiling-drives-high = refl
 
 pub ceiling-drives-low :
-    newValue (record { high = Infinite; low = Finite (ohms ceiling); highCharge = femtofarads 1; lowCharge = femtofarads 0 }) 1 ≡ 0
+    newValue (record { high = Infinite; low = Finite (ohms ceiling); highCharge = femtofarads 1; lowCharge = femtofarads 0; exceeds = false }) 1 ≡ 0
 unfolding newValue
 ceiling-drives-low = refl
 

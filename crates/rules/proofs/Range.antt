@@ -2,7 +2,7 @@
 -- once at most, because the kept channels form a forest.
 use mathlib.Core.Path.{_≡_, refl, sym, _∙_, ap, ap₂, subst}
 use mathlib.Core.Logic.{_⊎_, inl, inr, ⊎-elim, ⊎-map}
-use mathlib.Core.Bool.{Bool, true, false, not, _&&_, cond, and-false, or-false}
+use mathlib.Core.Bool.{Bool, true, false, not, _&&_, _||_, cond, and-false, or-false}
 use mathlib.Core.Option.{Option, some, none}
 use mathlib.Core.List.{List, [], _∷_, _++_, List·Memᴰ, List·Memᴰ·head, List·Memᴰ·tail, List·Memᴰ·not-nil, List·Memᴰ·append-cases, List·Memᴰ·eq-of-singleton}
 use Prim.Native.Nat.{ℕ, zero, suc, _+_, _-_, _*_, _≤_, _<_}
@@ -16,19 +16,20 @@ use Rattle.units.specs.declared.Resistance.the-variants.{Infinite, Finite}
 use Rattle.units.specs.declared.Femtofarads.{Femtofarads}
 use Rattle.units.specs.declared.Ohms.{Ohms}
 use Rattle.units.specs.Units.{ohms, femtofarads}
-use Rattle.units.specs.Range.{AtMost, Positive, Divisible, InRange}
-use Rattle.units.specs.Rules.{ceiling, parallel, armSide}
-use Rattle.units.proofs.Laws.{parallel-in-range, armSide-in-range, share-at-most}
+use Rattle.units.specs.Range.{AtMost, Positive, Divisible}
+use Rattle.units.specs.Rules.{ceiling, above, parallel, armSide}
+use Rattle.units.proofs.Laws.{parallel-positive, parallel-at-most, armSide-at-least, not-above, at-most-ceiling, at-most-weaken, delayArm-at-most, share-at-most}
 use Rattle.format.specs.declared.Node.{Node}
+use Rattle.format.specs.declared.Transistor.{Transistor}
 use Rattle.format.specs.Circuit.{Circuit, nodeRecord, noNode}
-use Rattle.format.specs.Legal.{mostCapacitance, mostNodes}
+use Rattle.format.specs.Legal.{mostCapacitance, mostResistance, mostNodes}
 use Rattle.format.proofs.Legal.{LegalCell}
 use Rattle.rules.specs.State.{State, valueAt, isDriven, isInner}
 use Rattle.rules.specs.Kept.{Channel, kept}
 use Rattle.rules.specs.Sum.{Sum, leads, farEnd, overArms, drivenSum, ownSum, armOf, joinSums, nodeSum, infinite, less, decided, newValue}
 use Rattle.rules.specs.Delay.{Load, ownLoad, loadArm, joinLoads, isEnd, nodeLoad}
-use Rattle.rules.proofs.Label.{IsNode, all-legal, inner-node}
-use Rattle.rules.proofs.Forest.{Inner, Cut, Rising}
+use Rattle.rules.proofs.Label.{IsNode, all-legal, inner-node, or-neither}
+use Rattle.rules.proofs.Forest.{Inner, Cut, Rising, kept-stems}
 use Rattle.rules.proofs.Walk.{Rule, walk, sumRule, loadRule, arms-all, walk-within, walk-related, sum-walk, load-walk, walk-end, not-end-inner, Distinct, distinct-length, Ends, leads-ends, ends-to, ends-from, ends-both, number-one, Kept, kept-kept, Way, way-root, step-inner, step-new, way-step, sum-driven, sum-own, sum-arms, load-end, load-own, load-arms}
 
 -- the rule of the inner nodes that a walk comes to, in order, as often as it does
@@ -316,24 +317,27 @@ module _ (c : Circuit) (legal : LegalCell c) (s : State) (a n : ℕ) (i : n < 2 
   pub kept-load-charge : (sharing : Bool) (new : ℕ) → nodeLoad a sharing new c s (kept c s) none n .charge .0 ≤ mostCapacitance * mostNodes
   kept-load-charge sharing new = omega (arith, kept-reach, load-reach c s (legal-limited legal) (kept c s) a none n sharing new)
 
--- both sides of a sum are in an arm's range: infinite, or 1 ohm to the ceiling
+-- both sides of a sum are in an arm's range: infinite, or 1 ohm to the ceiling where the walk did not exceed it
 pub record SumInRange (v : Sum) : Type 0 where
-  pub high : InRange (v .high)
-  pub low : InRange (v .low)
+  pub high : Positive (v .high)
+  pub low : Positive (v .low)
+  pub high-most : v .exceeds ≡ false → AtMost ceiling (v .high)
+  pub low-most : v .exceeds ≡ false → AtMost ceiling (v .low)
 
--- each side may be divided by the other, and is at most the ceiling
+-- each side may be divided by the other, and is at most the ceiling where the walk did not exceed it
 pub record SumOfArm (v : Sum) : Type 0 where
   pub high-divides : Divisible (v .high) (v .low)
   pub low-divides : Divisible (v .low) (v .high)
-  pub high-most : AtMost ceiling (v .high)
-  pub low-most : AtMost ceiling (v .low)
+  pub high-most : v .exceeds ≡ false → AtMost ceiling (v .high)
+  pub low-most : v .exceeds ≡ false → AtMost ceiling (v .low)
 
 -- no channel of the list is without resistance
 abbrev pub Resistive : List Channel → Type 0
 Resistive ks = (k : Channel) → List·Memᴰ k ks → 1 ≤ k .transistor .resistance .0
 
-infinite-in-range : InRange Infinite
-infinite-in-range = record { positive = tt; atMost = tt }
+-- none has more than so many ohms
+abbrev pub Weak : ℕ → List Channel → Type 0
+Weak m ks = (k : Channel) → List·Memᴰ k ks → k .transistor .resistance .0 ≤ m
 
 divisible : (side other : Resistance) → Positive other → Divisible side other
 divisible Infinite other p = tt
@@ -342,23 +346,44 @@ divisible (Finite a) other p = p
 -- a sum whose sides are in an arm's range stands behind an arm
 pub in-range-arm : (v : Sum) → SumInRange v → SumOfArm v
 in-range-arm v h = record {
-  high-divides = divisible (v .high) (v .low) (h .low .positive);
-  low-divides = divisible (v .low) (v .high) (h .high .positive);
-  high-most = h .high .atMost;
-  low-most = h .low .atMost;
+  high-divides = divisible (v .high) (v .low) (h .low);
+  low-divides = divisible (v .low) (v .high) (h .high);
+  high-most = h .high-most;
+  low-most = h .low-most;
 }
 
 -- and so does a driven end, of whatever value
 pub driven-arm : (value : ℕ) → SumOfArm (drivenSum value)
 driven-arm value = by (eqb value 1)
   where
-    by : (b : Bool) → SumOfArm (record { high = cond b (Finite (ohms 0)) Infinite; low = cond b Infinite (Finite (ohms 0)); highCharge = femtofarads 0; lowCharge = femtofarads 0 })
-    by true = record { high-divides = tt; low-divides = tt; high-most = omega arith; low-most = tt }
-    by false = record { high-divides = tt; low-divides = tt; high-most = tt; low-most = omega arith }
+    by : (b : Bool) → SumOfArm (record { high = cond b (Finite (ohms 0)) Infinite; low = cond b Infinite (Finite (ohms 0)); highCharge = femtofarads 0; lowCharge = femtofarads 0; exceeds = false })
+    by true = record { high-divides = tt; low-divides = tt; high-most = λ _. omega arith; low-most = λ _. tt }
+    by false = record { high-divides = tt; low-divides = tt; high-most = λ _. tt; low-most = λ _. omega arith }
+
+-- where an arm does not exceed, nothing behind it does, and neither does a side of its own
+pub arm-within : (t : Transistor) (far : Sum) → armOf t far .exceeds ≡ false
+    → (far .exceeds ≡ false) × (above (armOf t far .high) ≡ false) × (above (armOf t far .low) ≡ false)
+arm-within t far e =
+    let sides = or-neither (far .exceeds || above (armOf t far .high)) (above (armOf t far .low)) e in
+    let far-high = or-neither (far .exceeds) (above (armOf t far .high)) (sides .0) in
+    (far-high .0, far-high .1, sides .1)
+
+-- where two joined sums do not, neither does
+pub join-within : (a b : Sum) → joinSums a b .exceeds ≡ false → (a .exceeds ≡ false) × (b .exceeds ≡ false)
+join-within a b e = or-neither (a .exceeds) (b .exceeds) e
 
 -- an arm is in range, whatever it leads to
 pub arm-in-range : (k : Channel) (far : Sum) → 1 ≤ k .transistor .resistance .0 → SumInRange (armOf (k .transistor) far)
-arm-in-range k far h = record { high = armSide-in-range (k .transistor .resistance) (far .high) (far .low) h; low = armSide-in-range (k .transistor .resistance) (far .low) (far .high) h }
+arm-in-range k far h = record {
+  high = armSide-at-least 1 (k .transistor .resistance) (far .high) (far .low) h;
+  low = armSide-at-least 1 (k .transistor .resistance) (far .low) (far .high) h;
+  high-most = λ e. not-above (armOf (k .transistor) far .high) (arm-within (k .transistor) far e .1);
+  low-most = λ e. not-above (armOf (k .transistor) far .low) (arm-within (k .transistor) far e .2);
+}
+
+-- a node by itself is
+own-in-range : (capacitance : Femtofarads) (value : ℕ) → SumInRange (ownSum capacitance value)
+own-in-range capacitance value = record { high = tt; low = tt; high-most = λ _. tt; low-most = λ _. tt }
 
 -- and so is a node sum after any arms
 pub arms-in-range : (away : Channel → Bool) (g : Channel → Sum) (some-arms : List Channel) → Resistive some-arms → (capacitance : Femtofarads) (value : ℕ)
@@ -367,26 +392,40 @@ arms-in-range away g some-arms h capacitance value =
     arms-all SumInRange away (λ (sum : Sum) (k : Channel). joinSums sum (armOf (k .transistor) (g k))) some-arms
     (λ k m _ v p.
     let q : SumInRange (armOf (k .transistor) (g k)) = arm-in-range k (g k) (h k m) in
-    record { high = parallel-in-range (v .high) _ (p .high) (q .high); low = parallel-in-range (v .low) _ (p .low) (q .low) })
-    (ownSum capacitance value) (record { high = infinite-in-range; low = infinite-in-range })
+    record {
+      high = parallel-positive (v .high) _ (p .high) (q .high);
+      low = parallel-positive (v .low) _ (p .low) (q .low);
+      high-most = λ e. parallel-at-most ceiling (v .high) _ (p .high-most (join-within v (armOf (k .transistor) (g k)) e .0)) (q .high-most (join-within v (armOf (k .transistor) (g k)) e .1));
+      low-most = λ e. parallel-at-most ceiling (v .low) _ (p .low-most (join-within v (armOf (k .transistor) (g k)) e .0)) (q .low-most (join-within v (armOf (k .transistor) (g k)) e .1));
+    })
+    (ownSum capacitance value) (own-in-range capacitance value)
 
--- the resistance of a delay walk after any arms
-pub load-arms-in-range : (away : Channel → Bool) (g : Channel → Load) (some-arms : List Channel) → Resistive some-arms → (new : ℕ) (capacitance : Femtofarads) (value : ℕ)
-    → InRange (overArms away (λ (load : Load) (k : Channel). joinLoads load (loadArm (k .transistor) (g k))) (ownLoad new capacitance value) some-arms .resistance)
-load-arms-in-range away g some-arms h new capacitance value =
-    arms-all (λ (v : Load). InRange (v .resistance)) away (λ (load : Load) (k : Channel). joinLoads load (loadArm (k .transistor) (g k))) some-arms
-    (λ k m _ v p. parallel-in-range (v .resistance) _ p (armSide-in-range (k .transistor .resistance) (g k .resistance) Infinite (h k m)))
-    (ownLoad new capacitance value) infinite-in-range
+-- the resistance of a delay walk after any arms is not 0
+pub load-arms-positive : (away : Channel → Bool) (g : Channel → Load) (some-arms : List Channel) → Resistive some-arms → (new : ℕ) (capacitance : Femtofarads) (value : ℕ)
+    → Positive (overArms away (λ (load : Load) (k : Channel). joinLoads load (loadArm (k .transistor) (g k))) (ownLoad new capacitance value) some-arms .resistance)
+load-arms-positive away g some-arms h new capacitance value =
+    arms-all (λ (v : Load). Positive (v .resistance)) away (λ (load : Load) (k : Channel). joinLoads load (loadArm (k .transistor) (g k))) some-arms
+    (λ k m _ v p. parallel-positive (v .resistance) _ p (armSide-at-least 1 (k .transistor .resistance) (g k .resistance) Infinite (h k m)))
+    (ownLoad new capacitance value) tt
+
+-- and is at most m × (a + 1) where no channel has more than m ohms and what lies behind each has at most m × a
+pub load-arms-at-most : (m a : ℕ) (away : Channel → Bool) (g : Channel → Load) (some-arms : List Channel) → Weak m some-arms
+    → ((k : Channel) → AtMost (m * a) (g k .resistance)) → (new : ℕ) (capacitance : Femtofarads) (value : ℕ)
+    → AtMost (m * suc a) (overArms away (λ (load : Load) (k : Channel). joinLoads load (loadArm (k .transistor) (g k))) (ownLoad new capacitance value) some-arms .resistance)
+load-arms-at-most m a away g some-arms h behind new capacitance value =
+    arms-all (λ (v : Load). AtMost (m * suc a) (v .resistance)) away (λ (load : Load) (k : Channel). joinLoads load (loadArm (k .transistor) (g k))) some-arms
+    (λ k i _ v p. parallel-at-most (m * suc a) (v .resistance) _ p (delayArm-at-most m a (k .transistor .resistance) (g k .resistance) (h k i) (behind k)))
+    (ownLoad new capacitance value) tt
 
 module _ (c : Circuit) (s : State) (ks : List Channel) (h : Resistive ks) where
-  -- the sides of an inner node's sum are infinite, or 1 ohm to the ceiling
+  -- the sides of an inner node's sum are infinite, or 1 ohm to the ceiling unless the walk exceeds it
   pub sum-in-range : (a : ℕ) (from : Option ℕ) (n : ℕ) → isDriven c n ≡ false → SumInRange (nodeSum a c s ks from n)
-  sum-in-range zero from n e = subst SumInRange (sym (sum-own c s ks from n e)) (record { high = infinite-in-range; low = infinite-in-range })
+  sum-in-range zero from n e = subst SumInRange (sym (sum-own c s ks from n e)) (own-in-range (nodeRecord c n .capacitance) (valueAt s n))
   sum-in-range (suc a) from n e =
       subst SumInRange (sym (sum-arms c s ks a from n e))
       (arms-in-range (leads from n) (λ (k : Channel). nodeSum a c s ks (some (k .number)) (farEnd n k)) ks h (nodeRecord c n .capacitance) (valueAt s n))
 
-  -- the sum of any node may stand behind an arm: no divisor is 0, and no side is above the ceiling
+  -- the sum of any node may stand behind an arm: no divisor is 0, and no side is above the ceiling unless the walk exceeds it
   pub sum-of-arm : (a : ℕ) (from : Option ℕ) (n : ℕ) → SumOfArm (nodeSum a c s ks from n)
   sum-of-arm a from n =
       ⊎-elim
@@ -395,24 +434,47 @@ module _ (c : Circuit) (s : State) (ks : List Channel) (h : Resistive ks) where
       (bool-cases (isDriven c n))
 
   module _ (sharing : Bool) (new : ℕ) where
-    -- where a delay walk goes on, its resistance is infinite, or 1 ohm to the ceiling
-    pub load-in-range : (a : ℕ) (from : Option ℕ) (n : ℕ) → isEnd sharing new c s n ≡ false → InRange (nodeLoad a sharing new c s ks from n .resistance)
-    load-in-range zero from n e = subst (λ (v : Load). InRange (v .resistance)) (sym (load-own c s ks sharing new from n e)) infinite-in-range
-    load-in-range (suc a) from n e =
-        subst (λ (v : Load). InRange (v .resistance)) (sym (load-arms c s ks sharing new a from n e))
-        (load-arms-in-range (leads from n) (λ (k : Channel). nodeLoad a sharing new c s ks (some (k .number)) (farEnd n k)) ks h new (nodeRecord c n .capacitance) (valueAt s n))
+    -- where a delay walk goes on, its resistance is not 0
+    pub load-positive : (a : ℕ) (from : Option ℕ) (n : ℕ) → isEnd sharing new c s n ≡ false → Positive (nodeLoad a sharing new c s ks from n .resistance)
+    load-positive zero from n e = subst (λ (v : Load). Positive (v .resistance)) (sym (load-own c s ks sharing new from n e)) tt
+    load-positive (suc a) from n e =
+        subst (λ (v : Load). Positive (v .resistance)) (sym (load-arms c s ks sharing new a from n e))
+        (load-arms-positive (leads from n) (λ (k : Channel). nodeLoad a sharing new c s ks (some (k .number)) (farEnd n k)) ks h new (nodeRecord c n .capacitance) (valueAt s n))
 
-    -- and that of any node is at most the ceiling
-    pub load-at-most : (a : ℕ) (from : Option ℕ) (n : ℕ) → AtMost ceiling (nodeLoad a sharing new c s ks from n .resistance)
-    load-at-most a from n =
-        ⊎-elim
-        (λ (e : isEnd sharing new c s n ≡ true). subst (λ (v : Load). AtMost ceiling (v .resistance)) (sym (load-end c s ks sharing new a from n e)) (by (eqb (valueAt s n) new)))
-        (λ (e : isEnd sharing new c s n ≡ false). load-in-range a from n e .atMost)
-        (bool-cases (isEnd sharing new c s n))
-      where
-        by : (b : Bool) → AtMost ceiling (cond b (Finite (ohms 0)) Infinite)
-        by true = omega arith
-        by false = tt
+module _ (c : Circuit) (s : State) (ks : List Channel) (m : ℕ) (h : Weak m ks) (sharing : Bool) (new : ℕ) where
+  -- at an end it is 0 or infinite
+  either : (most a : ℕ) (from : Option ℕ) (n : ℕ) → (isEnd sharing new c s n ≡ false → AtMost most (nodeLoad a sharing new c s ks from n .resistance)) → AtMost most (nodeLoad a sharing new c s ks from n .resistance)
+  either most a from n on =
+      ⊎-elim
+      (λ (e : isEnd sharing new c s n ≡ true). subst (λ (v : Load). AtMost most (v .resistance)) (sym (load-end c s ks sharing new a from n e)) (by (eqb (valueAt s n) new)))
+      on
+      (bool-cases (isEnd sharing new c s n))
+    where
+      by : (b : Bool) → AtMost most (cond b (Finite (ohms 0)) Infinite)
+      by true = omega arith
+      by false = tt
+
+  -- the resistance of a delay walk is at most that of as many transistors in a row as it may pass: it never exceeds the ceiling
+  pub load-at-most : (a : ℕ) (from : Option ℕ) (n : ℕ) → AtMost (m * a) (nodeLoad a sharing new c s ks from n .resistance)
+  load-at-most zero from n = either (m * 0) zero from n (λ e. subst (λ (v : Load). AtMost (m * 0) (v .resistance)) (sym (load-own c s ks sharing new from n e)) tt)
+  load-at-most (suc a) from n =
+      either (m * suc a) (suc a) from n
+      (λ e. subst (λ (v : Load). AtMost (m * suc a) (v .resistance)) (sym (load-arms c s ks sharing new a from n e))
+      (load-arms-at-most m a (leads from n) (λ (k : Channel). nodeLoad a sharing new c s ks (some (k .number)) (farEnd n k)) ks h
+      (λ k. load-at-most a (some (k .number)) (farEnd n k)) new (nodeRecord c n .capacitance) (valueAt s n)))
+
+-- no kept channel of a legal cell has more ohms than a transistor may have
+kept-weak : (c : Circuit) → LegalCell c → (s : State) → Weak mostResistance (kept c s)
+kept-weak c legal s k m = all-legal legal (k .transistor) (kept-stems c s k m .listed) .most
+
+-- Which walks can exceed the ceiling (document 02, wish 3): that of a node sum. The delay walk of a legal cell can't: 24 transistors in a row have
+-- 5,760,000 ohm at most.
+pub delay-never-exceeds : (c : Circuit) → LegalCell c → (s : State) (sharing : Bool) (new : ℕ) (from : Option ℕ) (n : ℕ)
+    → above (nodeLoad (length (c .nodes)) sharing new c s (kept c s) from n .resistance) ≡ false
+delay-never-exceeds c legal s sharing new from n =
+    at-most-ceiling (nodeLoad (length (c .nodes)) sharing new c s (kept c s) from n .resistance)
+    (at-most-weaken (nodeLoad (length (c .nodes)) sharing new c s (kept c s) from n .resistance) (omega (arith, legal .limits .most-nodes))
+    (load-at-most c s (kept c s) mostResistance (kept-weak c legal s) sharing new (length (c .nodes)) from n))
 
 -- two in parallel are infinite exactly where both are
 infinite-parallel : (a b : Resistance) → infinite (parallel a b) ≡ infinite a && infinite b

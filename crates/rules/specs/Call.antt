@@ -1,9 +1,8 @@
--- Start, step, run up to a picosecond and run question, with every refusal in the paper's order: 8, the cell's own, 7, 10, 9, 6.
+-- Start, step, run up to a picosecond and run question, with every refusal in the papers' order: 8, the cell's own, 7, 10, 11, 9, 6.
 use Prim.Native.Nat.{ℕ, _+_}
-use mathlib.Core.List.{List}
 use mathlib.Core.Bool.{Bool, _&&_}
 use lib.ListN.{length}
-use lib.Dec.{leb, ltb, eqb}
+use lib.Dec.{leb, ltb}
 use Rattle.refusal.specs.declared.Refusal.the-variants.{Unsound, Buffer, Question, Finished}
 use Rattle.refusal.specs.Answer.{Answer, refused, answered, check}
 use Rattle.format.specs.Circuit.{Circuit, firstNodeNumber}
@@ -11,7 +10,7 @@ use Rattle.diagram.specs.Pattern.{patterns}
 use Rattle.diagram.specs.Table.{never}
 use Rattle.diagram.specs.Call.{Columns, lengthsLegal, columnsSound, tableOf}
 use Rattle.rules.specs.State.{valueAt, changeAt}
-use Rattle.rules.specs.Run.{Run, Moment, stateOf, startMoment, timeAfter, stepMoment, fitting, runMoment, runSound}
+use Rattle.rules.specs.Run.{Run, Moment, stateOf, startAnswer, timeAfter, stepAnswer, runMoment, runSound}
 
 -- working: a second lent table, of which only the lengths are judged
 abbrev pub leastWorking : ℕ
@@ -38,7 +37,7 @@ startCall cell table used working =
     check (lengthsLegal table && workingLegal working) Buffer
     (withCell cell (λ c.
     check (columnsSound (c .letters) table used) Unsound
-    (fitting (length (table .letter)) (startMoment c (tableOf table used)))))
+    (startAnswer c (length (table .letter)) (tableOf table used))))
 
 unfoldable pub stepCall : Answer Circuit → Columns → Run → Columns → Answer Moment
 stepCall cell table r working =
@@ -46,7 +45,7 @@ stepCall cell table r working =
     (withCell cell (λ c.
     check (soundTogether c table r) Unsound
     (check (ltb (timeAfter c (momentGiven table r)) never) Finished
-    (fitting (length (table .letter)) (stepMoment c (momentGiven table r))))))
+    (stepAnswer c (length (table .letter)) (momentGiven table r)))))
 
 -- a run up to a picosecond: every step not later
 unfoldable pub runCall : Answer Circuit → ℕ → Columns → Run → Columns → Answer Moment

@@ -4,7 +4,7 @@ use mathlib.Core.List.{List, [], _∷_, map}
 use mathlib.Core.Bool.{Bool, false, not, _&&_, _||_, cond}
 use lib.ListN.{length}
 use lib.Dec.{leb, ltb, eqb}
-use Rattle.refusal.specs.declared.Refusal.the-variants.{Full}
+use Rattle.refusal.specs.declared.Refusal.the-variants.{Full, Ceiling}
 use Rattle.refusal.specs.Answer.{Answer, refused, answered, check}
 use Rattle.lists.specs.Tests.{below}
 use Rattle.format.specs.declared.Entry.{Entry}
@@ -12,10 +12,10 @@ use Rattle.format.specs.Circuit.{Circuit, every}
 use Rattle.format.specs.Legal.{isInput}
 use Rattle.diagram.specs.Pattern.{patterns}
 use Rattle.diagram.specs.Table.{Table, never, numberAt}
-use Rattle.diagram.specs.Store.{Stored, store}
+use Rattle.diagram.specs.Store.{store}
 use Rattle.diagram.specs.Operation.{twoValued}
 use Rattle.rules.specs.State.{State, valueAt, changeAt, nodeNumbers}
-use Rattle.rules.specs.Step.{started, stepped}
+use Rattle.rules.specs.Step.{started, startExceeds, stepped, stepExceeds}
 
 -- the earliest of some times that is after now, or never
 unfoldable pub soonest : ℕ → List ℕ → ℕ
@@ -94,6 +94,20 @@ stepMoment c m =
 abbrev pub fitting : ℕ → Moment → Answer Moment
 fitting size m = check (leb (length (m .table)) size) Full (answered m)
 
+-- 11 (document 02, wish 3): at some pattern the start exceeds the ceiling, or the step to T does
+unfoldable pub startWithin : Circuit → Bool
+startWithin c = below (patterns (c .letters)) (λ p. not (startExceeds c p))
+
+unfoldable pub stepWithin : Circuit → Moment → Bool
+stepWithin c m = below (patterns (c .letters)) (λ p. not (stepExceeds c (timeAfter c m) p (stateOf c (m .table) (m .run) p)))
+
+-- the answer of a start and of a step: 11 before 6
+abbrev pub startAnswer : Circuit → ℕ → Table → Answer Moment
+startAnswer c size t = check (startWithin c) Ceiling (fitting size (startMoment c t))
+
+abbrev pub stepAnswer : Circuit → ℕ → Moment → Answer Moment
+stepAnswer c size m = check (stepWithin c m) Ceiling (fitting size (stepMoment c m))
+
 abbrev pub continued : Answer Moment → (Moment → Answer Moment) → Answer Moment
 continued (refused why) next = refused why
 continued (answered m) next = next m
@@ -104,7 +118,7 @@ unfoldable pub runMoment : ℕ → Circuit → ℕ → ℕ → Moment → Answer
 runMoment zero c until size m = answered m
 runMoment (suc steps) c until size m =
     cond (ltb (timeAfter c m) never && leb (timeAfter c m) until)
-    (continued (fitting size (stepMoment c m)) (λ (next : Moment). runMoment steps c until size next))
+    (continued (stepAnswer c size m) (λ (next : Moment). runMoment steps c until size next))
     (answered m)
 
 -- the entry of never

@@ -1,7 +1,7 @@
--- Step rules 5 to 7 together: the next change of a node; start and step for one pattern.
+-- Step rules 5 to 7 together: the next change of a node; start and step for one pattern, and whether they exceed the ceiling.
 use Prim.Native.Nat.{ℕ, _+_, min}
 use mathlib.Core.List.{List, map}
-use mathlib.Core.Bool.{Bool, cond}
+use mathlib.Core.Bool.{Bool, _&&_, cond}
 use mathlib.Core.Option.{none}
 use lib.ListN.{length}
 use lib.Dec.{leb, eqb}
@@ -10,6 +10,7 @@ use Rattle.format.specs.Circuit.{Circuit, nodeRecord}
 use Rattle.diagram.specs.Table.{never}
 use Rattle.rules.specs.State.{State, valueAt, changeAt, isInner, nodeNumbers}
 use Rattle.rules.specs.Arrive.{sourceAt, arrived}
+use Rattle.rules.specs.Label.{some}
 use Rattle.rules.specs.Reach.{reconsidered}
 use Rattle.rules.specs.Kept.{Channel, kept}
 use Rattle.rules.specs.Sum.{nodeSum, undriven, newValue}
@@ -18,6 +19,10 @@ use Rattle.rules.specs.Delay.{nodeLoad, inOhms}
 -- rule 5 for node n, over the kept channels
 unfoldable pub target : Circuit → State → List Channel → ℕ → ℕ
 target c s ks n = newValue (nodeSum (length (c .nodes)) c s ks none n) (valueAt s n)
+
+-- document 02, wish 3: a resistance in the walk of rule 4 for node n is above the ceiling, whether or not its side decides
+unfoldable pub exceeds : Circuit → State → List Channel → ℕ → Bool
+exceeds c s ks n = nodeSum (length (c .nodes)) c s ks none n .exceeds
 
 -- rule 6: the delay of node n to a new value, by a walk that ends at holders of that value or only at driven ends
 unfoldable pub delayBy : Circuit → State → List Channel → Bool → ℕ → ℕ → ℕ
@@ -50,6 +55,13 @@ stepped c time p s =
       changes = map (λ (n : ℕ). cond (reconsidered c s after n) (nextChange c time after ks n) (changeAt after n)) (nodeNumbers c);
     }
 
+-- the step to T exceeds the ceiling at this pattern: in a node that it reconsiders. No other node is looked at.
+unfoldable pub stepExceeds : Circuit → ℕ → ℕ → State → Bool
+stepExceeds c time p s =
+    let after = arrived c time p s in
+    let ks = kept c after in
+    some (λ (n : ℕ). reconsidered c s after n && exceeds c after ks n) (nodeNumbers c)
+
 -- the nodes at their sources, with no change pending
 unfoldable pub initial : Circuit → ℕ → State
 initial c p = record {
@@ -66,3 +78,10 @@ started c p =
       values = s .values;
       changes = map (λ (n : ℕ). cond (isInner c n) (nextChange c 0 s ks n) never) (nodeNumbers c);
     }
+
+-- the start exceeds it at this pattern: in any inner node
+unfoldable pub startExceeds : Circuit → ℕ → Bool
+startExceeds c p =
+    let s = initial c p in
+    let ks = kept c s in
+    some (λ (n : ℕ). isInner c n && exceeds c s ks n) (nodeNumbers c)

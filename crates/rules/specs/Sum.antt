@@ -1,4 +1,4 @@
--- Step rules 4 and 5: node sum, arm, and the new value.
+-- Step rules 4 and 5: node sum, arm, and the new value; with document 02's wish 3: whether the sum has met the ceiling.
 use Prim.Native.Nat.{ℕ, zero, suc}
 use mathlib.Core.List.{List, [], _∷_}
 use mathlib.Core.Bool.{Bool, true, false, not, _&&_, _||_, cond}
@@ -14,12 +14,13 @@ use Rattle.format.specs.Circuit.{Circuit, nodeRecord}
 use Rattle.rules.specs.State.{State, valueAt, isDriven}
 use Rattle.rules.specs.Kept.{Channel}
 
--- resistances to high and to low, and the charge on either side
+-- resistances to high and to low, the charge on either side, and whether a side of some arm of the walk is above the ceiling (wish 3)
 pub record Sum : Type 0 where
   pub high : Resistance
   pub low : Resistance
   pub highCharge : Femtofarads
   pub lowCharge : Femtofarads
+  pub exceeds : Bool
 
 -- the transistor by which a node was reached; none at the node that the walk is for
 abbrev pub isThe : Option ℕ → ℕ → Bool
@@ -47,6 +48,7 @@ drivenSum value = record {
   low = cond (eqb value 1) Infinite (Finite (ohms 0));
   highCharge = femtofarads 0;
   lowCharge = femtofarads 0;
+  exceeds = false;
 }
 
 -- an inner node by itself: its capacitance on the side of its value
@@ -56,15 +58,21 @@ ownSum capacitance value = record {
   low = Infinite;
   highCharge = cond (eqb value 1) capacitance (femtofarads 0);
   lowCharge = cond (eqb value 1) (femtofarads 0) capacitance;
+  exceeds = false;
 }
 
--- an arm: the transistor's resistance before the far node's sum, both sides of the sum as it was
+-- an arm: the transistor's resistance before the far node's sum, both sides of the sum as it was. Either side counts against the ceiling,
+-- and what lies behind is passed on.
 abbrev pub armOf : Transistor → Sum → Sum
 armOf t far = record {
   high = units.armSide (t .resistance) (far .high) (far .low);
   low = units.armSide (t .resistance) (far .low) (far .high);
   highCharge = far .highCharge;
   lowCharge = far .lowCharge;
+  exceeds =
+      far .exceeds
+      || units.above (units.armSide (t .resistance) (far .high) (far .low))
+      || units.above (units.armSide (t .resistance) (far .low) (far .high));
 }
 
 abbrev pub joinSums : Sum → Sum → Sum
@@ -73,6 +81,7 @@ joinSums a b = record {
   low = units.parallel (a .low) (b .low);
   highCharge = units.joined (a .highCharge) (b .highCharge);
   lowCharge = units.joined (a .lowCharge) (b .lowCharge);
+  exceeds = a .exceeds || b .exceeds;
 }
 
 -- The sum of node n reached by a channel, over the kept channels. The allowance is the number of inner nodes not yet passed;
