@@ -3,54 +3,43 @@ use mathlib.Core.Path.{_≡_, refl, sym, _∙_, ap, subst}
 use mathlib.Core.Logic.{⊎-elim}
 use mathlib.Core.List.{List}
 use mathlib.Core.Bool.{Bool, true, false}
-use Prim.Native.Nat.{ℕ, _<_, _≤_}
+use Prim.Native.Nat.{ℕ}
 use native.Mathlib.Omega.{arith}
 use lib.ListN.{length}
 use lib.Dec.{ltb}
 use borrow.Author.Tests.{lt-ltb, le-ltb}
 use Rattle.refusal.specs.declared.Refusal.{Refusal}
-use Rattle.refusal.specs.declared.Refusal.the-variants.{Full, Unsound, Finished}
+use Rattle.refusal.specs.declared.Refusal.the-variants.{Unsound, Finished}
 use Rattle.refusal.specs.declared.Reply.{Reply}
-use Rattle.refusal.specs.declared.Reply.the-variants.{Done, Refused}
-use Rattle.refusal.specs.Answer.{Answer, refused, answered, check}
+use Rattle.refusal.specs.declared.Reply.the-variants.{Refused}
+use Rattle.refusal.specs.Answer.{Answer, refused, answered, check, replyOf}
 use Rattle.lists.proofs.Cases.{bool-cases, and-right, true-false}
 use Rattle.format.specs.Circuit.{Circuit}
 use Rattle.diagram.specs.Table.{Table, never}
 use Rattle.diagram.specs.Call.{columns, Columns, lengthsLegal, columnsSound, columnsOf}
 use Rattle.diagram.specs.Held.{held}
 use Rattle.diagram.proofs.Columns.{held-columns, columns-path}
-use Rattle.rules.specs.Run.{Moment, startMoment, timeAfter, stepMoment, fitting, runMoment, runSound}
+use Rattle.rules.specs.Run.{Moment, startAnswer, timeAfter, stepAnswer, runMoment, runSound}
 use Rattle.rules.specs.Call.{workingLegal, momentGiven, startCall, stepCall, runCall}
 use Rattle.rules.proofs.Moment.{time-never}
-use Rattle.rules.proofs.Admitted.{fitting-fits, fitting-full}
-use Rattle.table.specs.declared.Stop.{Stop}
-use Rattle.table.specs.Stop.{stopped}
 use Rattle.table.specs.Holds.{Holds, Kept, Judged, zeroFrom}
-use Rattle.table.proofs.Stops.{stop-over, stop-fits}
 use Rattle.table.proofs.Clearing.{kept-restored}
-use Rattle.functions.specs.Open.{Open}
 use Rattle.functions.proofs.Carry.{judged-open}
 use Rattle.net.specs.Net.{lettersPlace, at, netCircuit}
 use Rattle.net.specs.Laid.{Laid}
 use Rattle.net.proofs.Laying.{letters-at}
 use Rattle.record.specs.declared.Run.{Run}
 use Rattle.record.specs.Record.{runOf}
-use Rattle.moment.specs.Next.{NextAs}
+use Rattle.admit.specs.Reached.{refuses, Left, Reached}
 use Rattle.advance.specs.declared.Task.the-variants.{Start, Step, Until}
 use Rattle.advance.specs.Task.{taskCall}
 use Rattle.advance.specs.Went.{WentAs}
-use Rattle.advance.specs.Reached.{Together, Left, Reached, Closed}
+use Rattle.advance.specs.Reached.{Together, Closed}
 
--- a start or a step, as a task leaves it
-pub next-reached : {t : Table} {m : Moment} {l w h ix : List ℕ} {stop : Stop} {r : Run} (size : ℕ) → length l ≡ size → NextAs t m l w h ix stop r
-    → Reached t (fitting size m) l w h ix stop r
-next-reached {t} {m} {l} {w} {h} {ix} {stop} {r} size long n = record {
-  over = λ e. let o : length l < length (m .table) = stop-over (length l) (length (m .table)) (n .stop-is) e in fitting-full size m (omega arith);
-  fits = λ e.
-      let o : length (m .table) ≤ length l = stop-fits (length l) (length (m .table)) (n .stop-is) e in
-      record { moment = m; is = fitting-fits size m (omega arith); run-is = n .run-is e; holds = n .holds e };
-  kept = n .kept;
-}
+-- a reply that refuses is that of an answer that does
+pub refusing : (a : Answer Moment) {reply : Reply} → reply ≡ replyOf a → refuses reply ≡ true → (why : Refusal) × (a ≡ refused why)
+refusing (refused why) e p = (why, refl)
+refusing (answered m) {reply} e p = true-false (refuses reply) p (ap refuses e)
 
 -- a refused task leaves all as it was
 pub went-refused : {table : Columns} {r r′ : Run} {answer : Answer Moment} {reply : Reply} (why : Refusal) → answer ≡ refused why → (reply ≡ Refused why) × (r′ ≡ r)
@@ -58,41 +47,44 @@ pub went-refused : {table : Columns} {r r′ : Run} {answer : Answer Moment} {re
 went-refused why e x = rw e record { reply-is = x .0; run-is = x .1; table-is = refl }
 
 -- what was reached is left, or cleared again
-pub went-closed : {l w h ix l1 w1 h1 ix1 l2 w2 h2 : List ℕ} {t : Table} {used : ℕ} {r next r′ : Run} {call answer : Answer Moment} {stop : Stop} {reply : Reply}
-    → Holds l w h ix t used → length l1 ≡ length l → call ≡ answer → Reached t answer l1 w1 h1 ix1 stop next → Closed l1 w1 h1 l2 w2 h2 used r stop next reply r′
+pub went-closed : {l w h ix l1 w1 h1 ix1 l2 w2 h2 : List ℕ} {t : Table} {used : ℕ} {r next r′ : Run} {call answer : Answer Moment} {told reply : Reply}
+    → Holds l w h ix t used → length l1 ≡ length l → call ≡ answer → Reached t answer l1 w1 h1 ix1 told next → Closed l1 w1 h1 l2 w2 h2 used r told next reply r′
     → WentAs (columns l w h) (columns l2 w2 h2) r call reply r′
-went-closed {l} {w} {h} {ix} {l1} {w1} {h1} {ix1} {l2} {w2} {h2} {t} {used} {r} {next} {r′} {call} {answer} {stop} {reply} held long same o d =
+went-closed {l} {w} {h} {ix} {l1} {w1} {h1} {ix1} {l2} {w2} {h2} {t} {used} {r} {next} {r′} {call} {answer} {told} {reply} held long same o d =
     ⊎-elim
-    (λ (e : stopped stop ≡ true).
+    (λ (e : refuses told ≡ true).
     let restored : columns l2 w2 h2 ≡ columns l w h = d .cleared e ∙ kept-restored held (subst (λ (n : ℕ). Kept l1 w1 h1 n t) long (o .kept)) in
-    rw (same ∙ o .over e, restored) record { reply-is = d .refused e .0; run-is = d .refused e .1; table-is = refl })
-    (λ (e : stopped stop ≡ false).
+    let no = refusing answer (o .reply-is) e in
+    rw (same ∙ no .1, restored) record { reply-is = d .reply-is ∙ o .reply-is ∙ ap replyOf (no .1); run-is = d .refused e; table-is = refl })
+    (λ (e : refuses told ≡ false).
     let left : Left answer l1 w1 h1 ix1 next = o .fits e in
     rw (same ∙ left .is)
     record {
-      reply-is = d .done e .0;
-      run-is = d .done e .1 ∙ left .run-is;
+      reply-is = d .reply-is ∙ o .reply-is ∙ ap replyOf (left .is);
+      run-is = d .done e ∙ left .run-is;
       table-is = d .kept e ∙ held-columns _ _ (left .holds .is) ∙ ap (λ (n : ℕ). columnsOf n (left .moment .table)) long;
     })
-    (bool-cases (stopped stop))
+    (bool-cases (refuses told))
 
--- the end of a task, with and without room
-pub closed-full : {l w h l′ w′ h′ : List ℕ} {used : ℕ} {r next r′ : Run} {stop : Stop} {reply : Reply} → stopped stop ≡ true
-    → (l′ ≡ zeroFrom used l) × (w′ ≡ zeroFrom used w) × (h′ ≡ zeroFrom used h) → (reply ≡ Refused Full) × (r′ ≡ r)
-    → Closed l w h l′ w′ h′ used r stop next reply r′
-closed-full {stop = stop} e z x = record {
+-- the end of a task, refused or not
+pub closed-refused : {l w h l′ w′ h′ : List ℕ} {used : ℕ} {r next : Run} {told : Reply} → refuses told ≡ true
+    → (l′ ≡ zeroFrom used l) × (w′ ≡ zeroFrom used w) × (h′ ≡ zeroFrom used h)
+    → Closed l w h l′ w′ h′ used r told next told r
+closed-refused {told = told} e z = record {
+  reply-is = refl;
   cleared = λ _. columns-path _ _ (z .0) (z .1) (z .2);
-  refused = λ _. x;
-  kept = λ room. true-false (stopped stop) e room;
-  done = λ room. true-false (stopped stop) e room;
+  refused = λ _. refl;
+  kept = λ room. true-false (refuses told) e room;
+  done = λ room. true-false (refuses told) e room;
 }
 
-pub closed-done : {l w h : List ℕ} {used : ℕ} {r next : Run} {stop : Stop} → stopped stop ≡ false → Closed l w h l w h used r stop next Done next
-closed-done {stop = stop} e = record {
-  cleared = λ over. true-false (stopped stop) over e;
-  refused = λ over. true-false (stopped stop) over e;
+pub closed-done : {l w h : List ℕ} {used : ℕ} {r next : Run} {told : Reply} → refuses told ≡ false → Closed l w h l w h used r told next told next
+closed-done {told = told} e = record {
+  reply-is = refl;
+  cleared = λ over. true-false (refuses told) over e;
+  refused = λ over. true-false (refuses told) over e;
   kept = λ _. refl;
-  done = λ _. (refl, refl);
+  done = λ _. refl;
 }
 
 -- whether table and run are sound together
@@ -121,7 +113,7 @@ module _ (net l w h : List ℕ) (r : Run) (working : Columns) (legal : lengthsLe
     unfolding startCall
     start-unsound e = rw (legal, wide, letters-at net, ← j .is, e)
 
-    pub start-next : x ≡ true → taskCall (answered (netCircuit net)) (Start used) (columns l w h) r working ≡ fitting (length l) (startMoment (netCircuit net) (held l w h used))
+    pub start-next : x ≡ true → taskCall (answered (netCircuit net)) (Start used) (columns l w h) r working ≡ startAnswer (netCircuit net) (length l) (held l w h used)
     unfolding startCall
     start-next e = rw (legal, wide, letters-at net, ← j .is, e)
 
@@ -131,7 +123,7 @@ module _ (net l w h : List ℕ) (r : Run) (working : Columns) (legal : lengthsLe
     step-unsound e = rw (legal, wide, ← t .is, e)
 
     step-sound : x ≡ true → taskCall (answered (netCircuit net)) Step (columns l w h) r working
-        ≡ check (ltb (timeAfter c given) never) Finished (fitting (length l) (stepMoment c given))
+        ≡ check (ltb (timeAfter c given) never) Finished (stepAnswer c (length l) given)
     unfolding stepCall
     step-sound e = rw (legal, wide, ← t .is, e)
 
@@ -140,7 +132,7 @@ module _ (net l w h : List ℕ) (r : Run) (working : Columns) (legal : lengthsLe
     step-finished e z = step-sound e ∙ rw (le-ltb (timeAfter c given) never (omega arith))
 
     pub step-next : x ≡ true → (timeAfter (netCircuit net) (momentGiven (columns l w h) (runOf (netCircuit net) r)) ≡ never → ⊥)
-        → taskCall (answered (netCircuit net)) Step (columns l w h) r working ≡ fitting (length l) (stepMoment (netCircuit net) (momentGiven (columns l w h) (runOf (netCircuit net) r)))
+        → taskCall (answered (netCircuit net)) Step (columns l w h) r working ≡ stepAnswer (netCircuit net) (length l) (momentGiven (columns l w h) (runOf (netCircuit net) r))
     step-next e z = step-sound e ∙ rw (lt-ltb (timeAfter c given) never (omega (arith, time-never c given)))
 
     pub run-unsound : (until : ℕ) → x ≡ false → taskCall (answered (netCircuit net)) (Until until) (columns l w h) r working ≡ refused Unsound

@@ -8,8 +8,9 @@ use native.Mathlib.Omega.{arith}
 use lib.ListN.{length}
 use lib.Dec.{leb, eqb}
 use borrow.Author.Tests.{leb-true, leb-false, eqb-false, ne-eqb, not-true}
-use Rattle.refusal.specs.declared.Refusal.the-variants.{Full}
-use Rattle.refusal.specs.Answer.{Answer}
+use Rattle.refusal.specs.declared.Reply.{Reply}
+use Rattle.refusal.specs.declared.Reply.the-variants.{Done}
+use Rattle.refusal.specs.Answer.{Answer, refused, answered, replyOf}
 use Rattle.lists.proofs.Cases.{eq-or-ne, and-left, and-right, true-false}
 use Rattle.format.specs.Circuit.{Circuit}
 use Rattle.diagram.specs.Table.{never}
@@ -22,12 +23,9 @@ use Rattle.rules.specs.Run as defined
 use Rattle.rules.specs.Run.{Moment, timeAfter, stepMoment, continued, runSound}
 use Rattle.rules.specs.Call.{momentGiven}
 use Rattle.rules.proofs.Moment.{RunSound, SoundMoment, run-record, sound-tests, tests-sound, time-never, time-within, step-time, step-sound, step-extends}
-use Rattle.rules.proofs.Admitted.{Admitted, Barred, crowded, admitting, admitted-answer, barred-answer}
+use Rattle.rules.proofs.Admitted.{Admitted, admitting, admitted-answer, answer-admitted}
 use Rattle.rules.proofs.RunSteps.{Rests, Takes, ran, run-rests, run-next}
-use Rattle.table.specs.declared.Stop.{Stop}
-use Rattle.table.specs.declared.Stop.the-variants.{Going as NotStopped}
-use Rattle.table.specs.Stop.{stopped}
-use Rattle.table.proofs.Stops.{stop-over, stop-fits}
+use Rattle.table.specs.Holds.{Holds}
 use Rattle.table.proofs.Outcomes.{holds-table, holds-kept, kept-extends}
 use Rattle.functions.specs.Open.{Open}
 use Rattle.functions.proofs.Carry.{open-next}
@@ -38,9 +36,8 @@ use Rattle.record.specs.declared.Run.{Run}
 use Rattle.record.specs.Record.{runOf, recordOf}
 use Rattle.record.specs.Leasts.{Leasts}
 use Rattle.record.proofs.Record.{run-of-record}
-use Rattle.record.proofs.Leasts.{leasts-extends}
-use Rattle.moment.specs.Next.{NextAs}
-use Rattle.advance.specs.Reached.{Reached}
+use Rattle.admit.specs.Reached.{refuses, Left, Reached}
+use Rattle.advance.proofs.Ends.{refusing}
 
 -- the moment that columns and a run hold
 abbrev pub momentIn : List ℕ → List ℕ → List ℕ → List ℕ → Run → Moment
@@ -90,13 +87,13 @@ module _ {net l w h ix : List ℕ} {r r′ : Run} (s : Standing net l w h ix r) 
   tidy-standing = record { opened = rw tidy-used (s .opened); sound = subst (λ (x : defined.Run). runSound (netCircuit net) (held l w h (x .used)) x ≡ true) (sym tidy-run) (s .sound) }
 
   -- so nothing is asked but what was
-  pub tidy-reached : (until size : ℕ) {l1 w1 h1 ix1 : List ℕ} {stop : Stop} {next : Run}
-      → Reached (held l w h (r′ .used)) (ran (netCircuit net) until size (momentGiven (columns l w h) (runOf (netCircuit net) r′))) l1 w1 h1 ix1 stop next
-      → Reached (held l w h (r .used)) (ran (netCircuit net) until size (momentGiven (columns l w h) (runOf (netCircuit net) r))) l1 w1 h1 ix1 stop next
-  tidy-reached until size {l1} {w1} {h1} {ix1} {stop} {next} x =
+  pub tidy-reached : (until size : ℕ) {l1 w1 h1 ix1 : List ℕ} {reply : Reply} {next : Run}
+      → Reached (held l w h (r′ .used)) (ran (netCircuit net) until size (momentGiven (columns l w h) (runOf (netCircuit net) r′))) l1 w1 h1 ix1 reply next
+      → Reached (held l w h (r .used)) (ran (netCircuit net) until size (momentGiven (columns l w h) (runOf (netCircuit net) r))) l1 w1 h1 ix1 reply next
+  tidy-reached until size {l1} {w1} {h1} {ix1} {reply} {next} x =
       subst
       (λ (y : defined.Run).
-      Reached (held l w h (y .used)) (ran (netCircuit net) until size (momentGiven (columns l w h) y)) l1 w1 h1 ix1 stop next)
+      Reached (held l w h (y .used)) (ran (netCircuit net) until size (momentGiven (columns l w h) y)) l1 w1 h1 ix1 reply next)
       tidy-run
       x
 
@@ -115,10 +112,27 @@ going-start {net} {l} {w} {h} {ix} {least} {r} until s e t = record {
   left = refl;
 }
 
+-- a step that was admitted, in the columns and as a value
+pub record Taken (net l w h : List ℕ) (r : Run) (size : ℕ) (l′ w′ h′ ix′ : List ℕ) (r′ : Run) : Type 0 where
+  pub admitted : Admitted (netCircuit net) size (momentGiven (columns l w h) (runOf (netCircuit net) r))
+  pub run-is : r′ ≡ recordOf (stepMoment (netCircuit net) (momentGiven (columns l w h) (runOf (netCircuit net) r)) .run)
+  pub holds : Holds l′ w′ h′ ix′ (stepMoment (netCircuit net) (momentGiven (columns l w h) (runOf (netCircuit net) r)) .table) (r′ .used)
+
+-- what a step leaves that is not refused
+pub left-taken : {net l w h : List ℕ} {r : Run} {size : ℕ} {l′ w′ h′ ix′ : List ℕ} {r′ : Run}
+    → Left (admitting (netCircuit net) size (momentGiven (columns l w h) (runOf (netCircuit net) r))) l′ w′ h′ ix′ r′ → Taken net l w h r size l′ w′ h′ ix′ r′
+left-taken {l′ = l′} {w′ = w′} {h′ = h′} {ix′ = ix′} {r′ = r′} left =
+    let a = answer-admitted (left .is) in
+    record {
+      admitted = a .0;
+      run-is = left .run-is ∙ ap (λ (x : Moment). recordOf (x .run)) (a .1);
+      holds = subst (λ (x : Moment). Holds l′ w′ h′ ix′ (x .table) (r′ .used)) (a .1) (left .holds);
+    }
+
 -- a step from such a moment leaves one
-module _ {net l w h ix l′ w′ h′ ix′ : List ℕ} {r r′ : Run} {stop : Stop} (laid : Laid (netCircuit net) net) (s : Standing net l w h ix r)
-    (n : NextAs (held l w h (r .used)) (stepMoment (netCircuit net) (momentGiven (columns l w h) (runOf (netCircuit net) r))) l′ w′ h′ ix′ stop r′)
-    (more : timeAfter (netCircuit net) (momentGiven (columns l w h) (runOf (netCircuit net) r)) < never) (room : stopped stop ≡ false) where
+module _ {net l w h ix l′ w′ h′ ix′ : List ℕ} {r r′ : Run} {size : ℕ} (laid : Laid (netCircuit net) net) (s : Standing net l w h ix r)
+    (n : Taken net l w h r size l′ w′ h′ ix′ r′)
+    (more : timeAfter (netCircuit net) (momentGiven (columns l w h) (runOf (netCircuit net) r)) < never) where
   abbrev c : Circuit
   c = netCircuit net
 
@@ -129,10 +143,10 @@ module _ {net l w h ix l′ w′ h′ ix′ : List ℕ} {r r′ : Run} {stop : S
   stepped = step-sound (laid .legal) (standing-sound s) more
 
   run-same : runOf (netCircuit net) r′ ≡ stepMoment (netCircuit net) (momentGiven (columns l w h) (runOf (netCircuit net) r)) .run
-  run-same = ap (runOf c) (n .run-is room) ∙ run-of-record c (stepMoment c m .run) (stepped .run .values-long) (stepped .run .changes-long)
+  run-same = ap (runOf c) (n .run-is) ∙ run-of-record c (stepMoment c m .run) (stepped .run .values-long) (stepped .run .changes-long)
 
   table-same : held l′ w′ h′ (r′ .used) ≡ stepMoment (netCircuit net) (momentGiven (columns l w h) (runOf (netCircuit net) r)) .table
-  table-same = holds-table (n .holds room)
+  table-same = holds-table (n .holds)
 
   -- the moment of the step is the one held
   pub moment-same : momentGiven (columns l′ w′ h′) (runOf (netCircuit net) r′) ≡ stepMoment (netCircuit net) (momentGiven (columns l w h) (runOf (netCircuit net) r))
@@ -140,7 +154,7 @@ module _ {net l w h ix l′ w′ h′ ix′ : List ℕ} {r r′ : Run} {stop : S
 
   pub step-standing : Standing net l′ w′ h′ ix′ r′
   step-standing = record {
-    opened = open-next (laid .within .letters) (subst (λ (k : ℕ). Sound k (stepMoment c m .table)) (letters-at net) (stepped .table)) (n .holds room);
+    opened = open-next (laid .within .letters) (subst (λ (k : ℕ). Sound k (stepMoment c m .table)) (letters-at net) (stepped .table)) (n .holds);
     sound = subst (λ (x : Moment). runSound c (x .table) (x .run) ≡ true) (sym moment-same) (sound-tests stepped .1);
   }
 
@@ -151,17 +165,11 @@ module _ {net l w h ix l′ w′ h′ ix′ : List ℕ} {r r′ : Run} {stop : S
   pub step-more : r .used ≤ r′ .used
   step-more = omega (arith, step-kept .longer, s .opened .holds .long, step-standing .opened .holds .long)
 
-  -- so the least numbers in a column are right
-  pub step-leasts : {least : List ℕ} → Leasts (at net lettersPlace) (held l w h (r .used)) (r .used) least
-      → Leasts (at net lettersPlace) (held l′ w′ h′ (r′ .used)) (r .used) least
-  step-leasts g =
-      leasts-extends g (laid .within .letters) (subst (λ (k : ℕ). Sound k (m .table)) (letters-at net) (standing-sound s .table)) step-kept (omega (arith, s .opened .holds .long))
-
   -- it is later, and within the horizon
   pub step-later : (r .time < r′ .time) × (r′ .time ≤ at net horizonPlace)
   step-later =
       let w : (r .time < timeAfter c m) × (timeAfter c m ≤ c .horizon .0) = time-within (laid .legal) (standing-sound s) more in
-      let t : r′ .time ≡ timeAfter c m = ap (λ (x : Run). x .time) (n .run-is room) ∙ step-time c m in
+      let t : r′ .time ≡ timeAfter c m = ap (λ (x : Run). x .time) (n .run-is) ∙ step-time c m in
       omega (arith, horizon-at net)
 
 -- the loop
@@ -185,17 +193,15 @@ module _ {net : List ℕ} {until : ℕ} {l₀ w₀ h₀ : List ℕ} {r₀ : Run}
 
   -- no step is left
   pub going-rests : (not (eqb time never) && leb time until) ≡ false
-      → Reached (held l₀ w₀ h₀ (r₀ .used)) (ran (netCircuit net) until (length l₀) (momentGiven (columns l₀ w₀ h₀) (runOf (netCircuit net) r₀))) l w h ix NotStopped r
-  going-rests e = record {
-    over = λ z. true-false false z refl;
-    fits = λ _. record {
-      moment = momentIn net l w h r;
-      is = g .left ∙ run-rests (netCircuit net) until (length l₀) (netCircuit net .horizon .0) (momentIn net l w h r) (going-left e);
-      run-is = g .whole;
-      holds = g .standing .opened .holds;
-    };
-    kept = holds-kept (g .standing .opened .holds) (g .kept);
-  }
+      → Reached (held l₀ w₀ h₀ (r₀ .used)) (ran (netCircuit net) until (length l₀) (momentGiven (columns l₀ w₀ h₀) (runOf (netCircuit net) r₀))) l w h ix Done r
+  going-rests e =
+      let is : ran (netCircuit net) until (length l₀) (momentGiven (columns l₀ w₀ h₀) (runOf (netCircuit net) r₀)) ≡ answered (momentIn net l w h r) =
+      g .left ∙ run-rests (netCircuit net) until (length l₀) (netCircuit net .horizon .0) (momentIn net l w h r) (going-left e) in
+      record {
+        reply-is = sym (ap replyOf is);
+        fits = λ _. record { moment = momentIn net l w h r; is = is; run-is = g .whole; holds = g .standing .opened .holds };
+        kept = holds-kept (g .standing .opened .holds) (g .kept);
+      }
 
   -- a step is left
   module _ (takes : Takes (netCircuit net) until (momentGiven (columns l w h) (runOf (netCircuit net) r))) where
@@ -203,36 +209,43 @@ module _ {net : List ℕ} {until : ℕ} {l₀ w₀ h₀ : List ℕ} {r₀ : Run}
         ≡ continued (admitting (netCircuit net) (length l₀) (momentGiven (columns l w h) (runOf (netCircuit net) r))) (ran (netCircuit net) until (length l₀))
     goes-on = g .left ∙ run-next (laid .legal) until (length l₀) (standing-sound (g .standing)) takes
 
-    module _ {l′ w′ h′ ix′ : List ℕ} {r′ : Run} {stop : Stop} (long : length l′ ≡ length l)
-        (n : NextAs (held l w h (r .used)) (stepMoment (netCircuit net) (momentGiven (columns l w h) (runOf (netCircuit net) r))) l′ w′ h′ ix′ stop r′) where
+    module _ {l′ w′ h′ ix′ : List ℕ} {r′ : Run} {reply : Reply} (long : length l′ ≡ length l)
+        (n : Reached (held l w h (r .used)) (admitting (netCircuit net) (length l) (momentGiven (columns l w h) (runOf (netCircuit net) r))) l′ w′ h′ ix′ reply r′) where
       abbrev after : Moment
       after = stepMoment (netCircuit net) (momentGiven (columns l w h) (runOf (netCircuit net) r))
 
-      -- that has no room
-      pub going-full : stopped stop ≡ true
-          → Reached (held l₀ w₀ h₀ (r₀ .used)) (ran (netCircuit net) until (length l₀) (momentGiven (columns l₀ w₀ h₀) (runOf (netCircuit net) r₀))) l′ w′ h′ ix′ stop r′
-      going-full e =
-          let o : length l′ < length (after .table) = stop-over (length l′) (length (after .table)) (n .stop-is) e in
-          let barred : Barred (netCircuit net) (length l₀) (momentIn net l w h r) Full = crowded (omega (arith, g .long)) in
+      -- of which the size is the first one's
+      there : admitting (netCircuit net) (length l) (momentGiven (columns l w h) (runOf (netCircuit net) r)) ≡ admitting (netCircuit net) (length l₀) (momentGiven (columns l w h) (runOf (netCircuit net) r))
+      there = ap (λ (size : ℕ). admitting (netCircuit net) size (momentIn net l w h r)) (g .long)
+
+      -- that is refused
+      pub going-refused : refuses reply ≡ true
+          → Reached (held l₀ w₀ h₀ (r₀ .used)) (ran (netCircuit net) until (length l₀) (momentGiven (columns l₀ w₀ h₀) (runOf (netCircuit net) r₀))) l′ w′ h′ ix′ reply r′
+      going-refused e =
+          let no = refusing (admitting (netCircuit net) (length l) (momentIn net l w h r)) (n .reply-is) e in
+          let whole : ran (netCircuit net) until (length l₀) (momentGiven (columns l₀ w₀ h₀) (runOf (netCircuit net) r₀)) ≡ refused (no .0) =
+          goes-on ∙ ap (λ (a : Answer Moment). continued a (ran (netCircuit net) until (length l₀))) (sym there ∙ no .1) in
           record {
-            over = λ _. goes-on ∙ ap (λ (a : Answer Moment). continued a (ran (netCircuit net) until (length l₀))) (barred-answer barred);
-            fits = λ z. true-false (stopped stop) e z;
+            reply-is = n .reply-is ∙ ap replyOf (no .1) ∙ sym (ap replyOf whole);
+            fits = λ z. true-false (refuses reply) e z;
             kept = kept-extends (g .kept) (n .kept);
           }
 
-      -- that has room
-      pub going-next : stopped stop ≡ false → {time′ : ℕ} {least′ : List ℕ} → Timed net l′ w′ h′ r′ time′ least′ → Going net until l₀ w₀ h₀ r₀ l′ w′ h′ ix′ r′ time′ least′
-      going-next e t =
-          let o : length (after .table) ≤ length l′ = stop-fits (length l′) (length (after .table)) (n .stop-is) e in
-          let admitted : Admitted (netCircuit net) (length l₀) (momentIn net l w h r) = record { fits = omega (arith, g .long) } in
-          let same : momentIn net l′ w′ h′ r′ ≡ after = moment-same laid (g .standing) n (takes .more) e in
-          record {
-            long = long ∙ g .long;
-            standing = step-standing laid (g .standing) n (takes .more) e;
-            whole = n .run-is e ∙ ap (λ (x : Moment). recordOf (x .run)) (sym same);
-            timed = t;
-            kept = extends-trans (g .kept) (step-kept laid (g .standing) n (takes .more) e);
-            left = goes-on
-                ∙ ap (λ (a : Answer Moment). continued a (ran (netCircuit net) until (length l₀))) (admitted-answer admitted)
-                ∙ ap (ran (netCircuit net) until (length l₀)) (sym same);
-          }
+      -- that is not
+      module _ (e : refuses reply ≡ false) where
+        pub going-taken : Taken net l w h r (length l) l′ w′ h′ ix′ r′
+        going-taken = left-taken (n .fits e)
+
+        pub going-next : {time′ : ℕ} {least′ : List ℕ} → Timed net l′ w′ h′ r′ time′ least′ → Going net until l₀ w₀ h₀ r₀ l′ w′ h′ ix′ r′ time′ least′
+        going-next t =
+            let same : momentIn net l′ w′ h′ r′ ≡ after = moment-same laid (g .standing) going-taken (takes .more) in
+            record {
+              long = long ∙ g .long;
+              standing = step-standing laid (g .standing) going-taken (takes .more);
+              whole = going-taken .run-is ∙ ap (λ (x : Moment). recordOf (x .run)) (sym same);
+              timed = t;
+              kept = extends-trans (g .kept) (step-kept laid (g .standing) going-taken (takes .more));
+              left = goes-on
+                  ∙ ap (λ (a : Answer Moment). continued a (ran (netCircuit net) until (length l₀))) (sym there ∙ admitted-answer (going-taken .admitted))
+                  ∙ ap (ran (netCircuit net) until (length l₀)) (sym same);
+            }

@@ -1,10 +1,10 @@
 // The end of a task.
 use crate::Went;
-use moment::Next;
+use admit::Next;
+use admit::refuses;
 use record::Run;
 use refusal::Refusal;
 use refusal::Reply;
-use table::Stop;
 use table::clear;
 ghost use mathlib.Core.Path.{_≡_};
 ghost use Rattle.refusal.specs.declared.Reply.the-variants.{Refused};
@@ -19,7 +19,7 @@ pub fn refused(why: Refusal, r: Run) -> Went
     }
 }
 
-// The reason becomes the refusal. Where the task stopped, the columns are cleared from the old used count on.
+// Where the task was refused, the columns are cleared from the old used count on.
 pub fn closed(
     letter: &mut [u32],
     low: &mut [u32],
@@ -28,20 +28,13 @@ pub fn closed(
     r: Run,
     next: Next,
 ) -> Went
-    ensures { λ x. ⌜ Closed (now (letter .entry)) (now (low .entry)) (now (high .entry)) (now (letter .exit)) (now (low .exit)) (now (high .exit)) used r (next .stop) (next .run) (x .reply) (x .run) ⌝ }
+    ensures { λ x. ⌜ Closed (now (letter .entry)) (now (low .entry)) (now (high .entry)) (now (letter .exit)) (now (low .exit)) (now (high .exit)) used r (next .reply) (next .run) (x .reply) (x .run) ⌝ }
 {
-    let why = next.stop;
-    match why {
-        Stop::Going => {
-            let run = next.run;
-            Went {
-                reply: Reply::Done,
-                run,
-            }
-        }
-        Stop::Full => {
-            clear(letter, low, high, used);
-            refused(Refusal::Full, r)
-        }
+    let reply = next.reply;
+    if refuses(reply) {
+        clear(letter, low, high, used);
+        return Went { reply, run: r };
     }
+    let run = next.run;
+    Went { reply, run }
 }

@@ -5,11 +5,11 @@
 mod close;
 mod steps;
 
+use admit::start;
+use admit::step;
 use close::closed;
 use close::refused;
 use functions::numbers::NEVER;
-use moment::start;
-use moment::step;
 use record::Run;
 use record::run_sound;
 use record::time_after;
@@ -135,7 +135,7 @@ fn step_task(
         whigh,
         windex,
         time,
-        &least,
+        &mut least,
     );
     closed(letter, low, high, r.used, r, next)
 }

@@ -1,11 +1,11 @@
 // Every step not later than a time.
+use admit::Next;
+use admit::refuses;
+use admit::step;
 use functions::numbers::NEVER;
-use moment::Next;
-use moment::step;
 use record::Run;
 use record::time_after;
-use table::Stop;
-use table::stopped;
+use refusal::Reply;
 ghost use mathlib.Core.Path.{_≡_};
 ghost use mathlib.Core.Bool.{true};
 ghost use Prim.Native.Nat.{_≤_};
@@ -20,7 +20,7 @@ ghost use Rattle.rules.specs.Call.{momentGiven};
 ghost use Rattle.record.specs.Record.{runOf, recordOf};
 ghost use Rattle.net.specs.Net.{lettersPlace, at as atPlace, netCircuit};
 ghost use Rattle.net.specs.Laid.{Laid};
-ghost use Rattle.advance.specs.Reached.{Reached};
+ghost use Rattle.admit.specs.Reached.{Reached};
 
 // The first entries, 0 past them.
 fn firsts(entries: [u32; 24], count: usize) -> [u32; 24]
@@ -69,7 +69,7 @@ pub fn steps(
 ) -> Next
     requires { ⌜ Laid (netCircuit (now net)) (now net) × Open (atPlace (now net) lettersPlace) (now letter) (now low) (now high) (now index) (r .used) × Lent (now wletter) (now wlow) (now whigh) (now windex) ⌝ }
     requires { ⌜ runSound (netCircuit (now net)) (held (now letter) (now low) (now high) (r .used)) (runOf (netCircuit (now net)) r) ≡ true ⌝ }
-    ensures { λ x. ⌜ Reached (held (now (letter .entry)) (now (low .entry)) (now (high .entry)) (r .used)) (runMoment (netCircuit (now (net .entry)) .horizon .0) (netCircuit (now (net .entry))) until (length (now (letter .entry))) (momentGiven (columns (now (letter .entry)) (now (low .entry)) (now (high .entry))) (runOf (netCircuit (now (net .entry))) r))) (now (letter .exit)) (now (low .exit)) (now (high .exit)) (now (index .exit)) (x .stop) (x .run) ⌝ }
+    ensures { λ x. ⌜ Reached (held (now (letter .entry)) (now (low .entry)) (now (high .entry)) (r .used)) (runMoment (netCircuit (now (net .entry)) .horizon .0) (netCircuit (now (net .entry))) until (length (now (letter .entry))) (momentGiven (columns (now (letter .entry)) (now (low .entry)) (now (high .entry))) (runOf (netCircuit (now (net .entry))) r))) (now (letter .exit)) (now (low .exit)) (now (high .exit)) (now (index .exit)) (x .reply) (x .run) ⌝ }
 {
     let mut now = tidy(net, r);
     let mut least = [0u32; 65536];
@@ -87,19 +87,19 @@ pub fn steps(
             whigh,
             windex,
             time,
-            &least,
+            &mut least,
         );
-        let why = next.stop;
-        if stopped(why) {
+        let reply = next.reply;
+        if refuses(reply) {
             return next;
         }
-        let done = now.used;
         let after = next.run;
+        let done = after.used;
         now = after;
         time = time_after(net, letter, low, high, now, &mut least, done);
     }
     Next {
-        stop: Stop::Going,
+        reply: Reply::Done,
         run: now,
     }
 }

@@ -27,13 +27,13 @@ use Rattle.rules.specs.Label.{labelAt, joined}
 use Rattle.rules.specs.Group.{groups, inGroup, isSeed}
 use Rattle.rules.specs.Reach.{reconsidered}
 use Rattle.rules.specs.Kept.{kept}
-use Rattle.rules.specs.Step.{nextChange}
 use Rattle.rules.proofs.State.{Numbered, Shaped}
 use Rattle.rules.proofs.Label.{joined-alike}
 use Rattle.rules.specs.Matrix as matrix
 use Rattle.net.specs.Net.{at, netCircuit, netGroup}
 use Rattle.net.proofs.Laying.{nodes-length, transistors-length}
 use Rattle.net.specs.Roots.{seedsPlace, pendingPlace, rootsLength, changePlace}
+use Rattle.plain.specs.Exceeded.{changeOrExceeded}
 use Rattle.plain.specs.Leaf.{leafState}
 use Rattle.prepare.specs.Steps.{Shows, Bits, considered}
 use Rattle.prepare.specs.Roots.{Roots}
@@ -219,7 +219,7 @@ module _ {net : List ℕ} {k : ℕ} {t : Table} {before after pending : List ℕ
       prepared-settles =
           settled c legal n inner own (leafAt k w out p) time first then (getD numbers changePlace 0) all then-shaped
           (leaf-change c (pendingIn time numbers) (drop 26 numbers) n own) right
-          ∙ ap (λ (q : ℕ). cond (all || reconsidered c first then n) (nextChange c time then (kept c then) n) q) (leaf-change c (pendingIn time numbers) (drop 26 numbers) n own)
+          ∙ ap (λ (q : ℕ). cond (all || reconsidered c first then n) (changeOrExceeded c time then (kept c then) n) q) (leaf-change c (pendingIn time numbers) (drop 26 numbers) n own)
 
     -- so the same is stored
     pub prepared-store : (time : ℕ) (u : Table) → store k 0 (settledBy (netCircuit net) time n k (held wl ww wh wused) out) u ≡ store k 0 (changeBy (netCircuit net) time all n k t entries) u

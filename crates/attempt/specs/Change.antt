@@ -8,8 +8,8 @@ use Rattle.diagram.specs.Table.{Table}
 use Rattle.rules.specs.State.{State}
 use Rattle.rules.specs.Reach.{reconsidered}
 use Rattle.rules.specs.Kept.{kept}
-use Rattle.rules.specs.Step.{nextChange}
 use Rattle.net.specs.Roots.{afterPlace, changePlace}
+use Rattle.plain.specs.Exceeded.{changeOrExceeded}
 use Rattle.plain.specs.Leaf.{leafState}
 use Rattle.plain.specs.Settle.{pendingAfter}
 use Rattle.descent.specs.Settle.{leafAt}
@@ -25,11 +25,11 @@ beforeState c numbers = leafState c 0 numbers
 abbrev pub afterState : Circuit → ℕ → List ℕ → State
 afterState c time numbers = leafState c (pendingIn time numbers) (drop afterPlace numbers)
 
--- rules 2 to 7: reconsidered, everywhere where `all`, else the pending change
+-- rules 2 to 7: reconsidered, everywhere where `all`, else the pending change. Where the walk exceeds the ceiling, that (plain's Exceeded).
 unfoldable pub changeFrom : Circuit → ℕ → Bool → ℕ → List ℕ → ℕ
 changeFrom c time all n numbers =
     cond (all || reconsidered c (beforeState c numbers) (afterState c time numbers) n)
-    (nextChange c time (afterState c time numbers) (kept c (afterState c time numbers)) n)
+    (changeOrExceeded c time (afterState c time numbers) (kept c (afterState c time numbers)) n)
     (pendingIn time numbers)
 
 -- the same over all patterns, by entries of a table

@@ -2,12 +2,14 @@
 -- patterns step together.
 use mathlib.Core.Path.{_≡_, refl, sym, _∙_, ap, ap₂, subst}
 use mathlib.Core.Logic.{⊎-elim}
-use mathlib.Core.Bool.{true}
+use mathlib.Core.Bool.{Bool, true, not}
 use Prim.Native.Nat.{ℕ, zero, suc, _%_, _^_, _≤_, _<_}
 use native.Mathlib.Nat.{zero-div}
 use native.Mathlib.Omega.{arith}
 use lib.Pow.{pow-pos}
-use Rattle.lists.proofs.Cases.{lt-or-ge}
+use Rattle.lists.specs.Tests.{below}
+use Rattle.lists.proofs.Below.{below-each, each-below}
+use Rattle.lists.proofs.Cases.{lt-or-ge, bool-ext}
 use Rattle.refusal.specs.Answer.{answered}
 use Rattle.format.specs.Circuit.{Circuit}
 use Rattle.format.specs.Legal.{checkCircuit}
@@ -18,14 +20,14 @@ use Rattle.diagram.specs.Table.{Table, never}
 use Rattle.diagram.proofs.Sound.{Sound}
 use Rattle.diagram.proofs.Pattern.{pattern-ext}
 use Rattle.rules.specs.State.{State}
-use Rattle.rules.specs.Step.{started, stepped}
-use Rattle.rules.specs.Run.{patternTime, Moment, startMoment, timeAfter, stepMoment}
+use Rattle.rules.specs.Step.{started, startExceeds, stepped, stepExceeds}
+use Rattle.rules.specs.Run.{patternTime, Moment, startMoment, timeAfter, stepMoment, startWithin, stepWithin}
 use Rattle.rules.proofs.Step.{legal-horizon}
 use Rattle.rules.proofs.Time.{legal-times, pattern-later, keeps-before, next-own, next-least}
 use Rattle.rules.proofs.Moment.{SoundMoment, start-time, step-time, start-state, moment-states, time-within, step-state, step-sound}
 use Rattle.commute.specs.Demand.{fixedPattern}
 use Rattle.commute.specs.Alone.{Alone, ownTime, startAlone, stepAlone, stepsAlone}
-use Rattle.commute.proofs.Fixed.{pattern-lt, pattern-letter, pattern-time-fixed, started-fixed, stepped-fixed}
+use Rattle.commute.proofs.Fixed.{pattern-lt, pattern-letter, pattern-time-fixed, started-fixed, stepped-fixed, start-exceeds-fixed, step-exceeds-fixed}
 use Rattle.commute.proofs.Trace.{Ground, Trace, begun, stepped as next, trace-sound}
 use Rattle.commute.proofs.Together.{pattern-from, stateAt}
 
@@ -119,6 +121,11 @@ reads-alone {c} {from = from} g (next {m = m} t more admitted) p h =
     let deeper : (n : ℕ) × Reads c m p (stepsAlone c p (aloneAt c from p) n) = reads-alone g t p h in
     reads-step c (g .legal) (trace-sound g t) more p h (aloneAt c from p) (deeper .0) (deeper .1)
 
+-- a test that gives the same at every number below a bound
+below-same : (n : ℕ) (test : ℕ → Bool) (b : Bool) (p : ℕ) → p < n → ((r : ℕ) → r < n → test r ≡ b) → below n test ≡ b
+below-same n test b p h same =
+    bool-ext (below n test) b (λ e. sym (same p h) ∙ below-each n test e p h) (λ e. each-below n test (λ r hr. same r hr ∙ e))
+
 -- the fixing that sets every letter low
 abbrev allLow : Fixing
 allLow k = low
@@ -137,22 +144,31 @@ AlikeAt c m = (p q : ℕ) → p < patterns (c .letters) → q < patterns (c .let
 
 module _ (c : Circuit) (legal : checkCircuit c ≡ answered c) (plain : withoutLetters c ≡ true) where
   -- the rules give every pattern of a cell without letters the same
-  started-plain : (p : ℕ) → p < patterns (c .letters) → started c p ≡ started c 0
-  started-plain p h =
-      ap (λ (d : Circuit). started d p) (sym (without-letters-fixed allLow c plain)) ∙ started-fixed allLow c legal p ∙ ap (started c) (all-low (c .letters) p h)
+  each-same : {A : Type 0} (f : Circuit → ℕ → A) → ((q : ℕ) → f (fixed allLow c) q ≡ f c (fixedPattern allLow (c .letters) q))
+      → (p q : ℕ) → p < patterns (c .letters) → q < patterns (c .letters) → f c p ≡ f c q
+  each-same f e p q hp hq = at-zero p hp ∙ sym (at-zero q hq)
+    where
+      at-zero : (r : ℕ) → r < patterns (c .letters) → f c r ≡ f c 0
+      at-zero r h = ap (λ (d : Circuit). f d r) (sym (without-letters-fixed allLow c plain)) ∙ e r ∙ ap (f c) (all-low (c .letters) r h)
 
-  stepped-plain : (time p : ℕ) (s : State) → p < patterns (c .letters) → stepped c time p s ≡ stepped c time 0 s
-  stepped-plain time p s h =
-      ap (λ (d : Circuit). stepped d time p s) (sym (without-letters-fixed allLow c plain))
-      ∙ stepped-fixed allLow c legal time p s
-      ∙ ap (λ (q : ℕ). stepped c time q s) (all-low (c .letters) p h)
+  -- in a step too, from what is the same
+  step-same : {A : Type 0} (f : Circuit → ℕ → ℕ → State → A) → ((time q : ℕ) (s : State) → f (fixed allLow c) time q s ≡ f c time (fixedPattern allLow (c .letters) q) s)
+      → {a b : Alone} → a ≡ b → (p q : ℕ) → p < patterns (c .letters) → q < patterns (c .letters) → f c (ownTime c a) p (a .state) ≡ f c (ownTime c b) q (b .state)
+  step-same f e {a} same p q hp hq =
+      each-same (λ (d : Circuit) (r : ℕ). f d (ownTime c a) r (a .state)) (λ r. e (ownTime c a) r (a .state)) p q hp hq
+      ∙ ap (λ (x : Alone). f c (ownTime c x) q (x .state)) same
 
   -- the start in any sound table is that of the rules, the same at every pattern
   pub plain-start : {t : Table} → Sound (c .letters) t → AlikeAt c (startMoment c t)
   plain-start s p q hp hq =
       start-alone legal s p hp
-      ∙ alone-is refl (started-plain p hp ∙ sym (started-plain q hq))
+      ∙ alone-is refl (each-same started (started-fixed allLow c legal) p q hp hq)
       ∙ sym (start-alone legal s q hq)
+
+  -- it is within the ceiling exactly if the start by the rules for one pattern is
+  pub plain-start-within : (p : ℕ) → p < patterns (c .letters) → startWithin c ≡ not (startExceeds c p)
+  unfolding startWithin
+  plain-start-within p h = below-same (patterns (c .letters)) _ _ p h (λ r hr. ap not (each-same startExceeds (start-exceeds-fixed allLow c legal) r p hr h))
 
   module _ {m : Moment} (s : SoundMoment c m) (alike : AlikeAt c m) where
     -- T is every pattern's own time
@@ -174,10 +190,17 @@ module _ (c : Circuit) (legal : checkCircuit c ≡ answered c) (plain : withoutL
         let same : aloneAt c m p ≡ aloneAt c m q = alike p q hp hq in
         plain-step p hp
         ∙ alone-is (ap (ownTime c) same)
-        (stepped-plain (ownTime c (aloneAt c m p)) p (stateAt c m p) hp
-        ∙ ap (λ (a : Alone). stepped c (ownTime c a) 0 (a .state)) same
-        ∙ sym (stepped-plain (ownTime c (aloneAt c m q)) q (stateAt c m q) hq))
+        (step-same stepped (stepped-fixed allLow c legal) same p q hp hq)
         ∙ sym (plain-step q hq)
+
+    -- it is within the ceiling exactly if that step of the rules is
+    pub plain-step-within : (p : ℕ) → p < patterns (c .letters) → stepWithin c m ≡ not (stepExceeds c (ownTime c (aloneAt c m p)) p (stateAt c m p))
+    unfolding stepWithin
+    plain-step-within p h =
+        below-same (patterns (c .letters)) _ _ p h
+        (λ r hr.
+        ap (λ (time : ℕ). not (stepExceeds c time r (stateAt c m r))) (plain-time r hr)
+        ∙ ap not (step-same stepExceeds (step-exceeds-fixed allLow c legal) (alike r p hr h) r p hr h))
 
   -- so its run is, step for step and at every pattern, the run by the rules for one pattern
   pub plain-steps : {size : ℕ} {from m : Moment} → Ground c size from → AlikeAt c from → Trace c size from m

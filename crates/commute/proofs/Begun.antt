@@ -1,29 +1,26 @@
 -- A start that is answered, and a run that was started in a fresh table and then called on.
 use mathlib.Core.Path.{_≡_, refl, sym, _∙_, ap, ap₂, subst}
-use mathlib.Core.Bool.{Bool, true, false}
-use mathlib.Core.Logic.{⊎-elim}
-use Prim.Native.Nat.{ℕ, _≤_, _<_}
+use mathlib.Core.Bool.{Bool, true}
+use Prim.Native.Nat.{ℕ, _≤_}
 use native.Mathlib.Omega.{arith}
 use lib.ListN.{length}
-use lib.Dec.{leb}
-use Rattle.refusal.specs.declared.Refusal.the-variants.{Buffer, Full}
+use Rattle.refusal.specs.declared.Refusal.the-variants.{Buffer, Ceiling}
 use Rattle.refusal.specs.Answer.{Answer, refused, answered, check, answerNumber}
 use Rattle.refusal.proofs.Answer.{check-passed}
 use Rattle.format.specs.Circuit.{Circuit}
-use Rattle.format.specs.Legal.{checkCircuit}
-use Rattle.diagram.specs.Store.{Stored, stored, fresh}
+use Rattle.diagram.specs.Store.{stored, fresh}
 use Rattle.diagram.specs.Call.{Columns, lengthsLegal, tableOf, columnsOf, freshCall}
 use Rattle.diagram.specs.Held.{leastEntries, mostEntries}
 use Rattle.diagram.proofs.Columns.{Lengths, lengths-record, columns-length, table-columns}
 use Rattle.diagram.proofs.Calls.{fresh-after}
-use Rattle.rules.specs.Run.{Moment, startMoment, timeAfter, stepMoment, fitting}
+use Rattle.rules.specs.Run.{Moment, startMoment, timeAfter, stepMoment, fitting, startWithin}
 use Rattle.rules.specs.Call.{workingLegal, startCall}
 use Rattle.rules.proofs.Admitted.{Admitted, fitting-fits}
-use Rattle.rules.proofs.RunSteps.{Takes, Rests}
+use Rattle.rules.proofs.RunSteps.{Takes}
 use Rattle.commute.specs.Interface.{Held, Interface}
-use Rattle.commute.specs.Lists.{Call, step, inPlace, upTo, workingOf, Made, Begun, Reached}
-use Rattle.commute.specs.Demand.{stepTime, Stands, Within, NotRefusedUpTo}
-use Rattle.commute.proofs.Lawful.{answerOf, left, Went, Lawful}
+use Rattle.commute.specs.Lists.{Call, step, inPlace, upTo, workingOf, Begun, Reached}
+use Rattle.commute.specs.Demand.{Stands, Within, NotRefusedUpTo}
+use Rattle.commute.proofs.Lawful.{answerOf, left, Lawful}
 use Rattle.commute.proofs.Trace.{Ground, Trace, begun, Started, start-answered, started-ground, fresh-ground, start-fresh, step-answers, run-answers, trace-ground, onward, StandsAt}
 use Rattle.commute.proofs.Keeps.{Keeps, number-answered, answered-number, left-keeps, keeps-next, call-went, calls-keep, stands-rests}
 
@@ -63,6 +60,10 @@ module _ {Source R : Type 0} {K : Interface Source R} (L : Lawful K) (s : Source
         let l : Lengths lent = lengths-record lent legal in
         (omega (arith, l .least), omega (arith, l .most), y .1 ∙ fresh-after lent legal ∙ ap (λ (n : ℕ). columnsOf n fresh) long)
 
+    -- a run that was started had a start within the ceiling
+    pub begun-within : {h : Held R} → Begun K s size h → startWithin c ≡ true
+    begun-within b = start-keeps (length fresh) (b .start) .1 .within
+
     -- a run that was started in a fresh table
     pub begun-keeps : {h : Held R} → Begun K s size h → Ground c size (startMoment c fresh) × Keeps K c size h (startMoment c fresh)
     begun-keeps {h} b =
@@ -87,10 +88,10 @@ module _ {Source R : Type 0} {K : Interface Source R} (L : Lawful K) (s : Source
         let y = stands-rests L s c cell (trace-ground (x .0) (x .1 .1)) (x .1 .2) p stands in
         (x .1 .0, record { ground = x .0; trace = x .1 .1; time = y .0; rests = y .1 }, x .1 .2)
 
-    -- where the start fits and every step up to a picosecond is admitted, running the cell is not refused up to it
-    pub not-refused : length (startMoment c fresh .table) ≤ size → (p : ℕ)
+    -- where the start is within the ceiling and fits and every step up to a picosecond is admitted, running the cell is not refused up to it
+    pub not-refused : startWithin c ≡ true → length (startMoment c fresh .table) ≤ size → (p : ℕ)
         → ((m : Moment) → Trace c size (startMoment c fresh) m → Takes c p m → Admitted c size m) → NotRefusedUpTo K s c size p
-    not-refused first p each = record {
+    not-refused within first p each = record {
       fresh-table = λ lent made legal number x. let y = L .fresh lent made number x in y .0 ∙ fresh-answered lent legal;
       start = λ lent long made h x sized working working′ w number started.
           let f = fresh-table lent (made .table) long x in
@@ -98,13 +99,14 @@ module _ {Source R : Type 0} {K : Interface Source R} (L : Lawful K) (s : Source
           answered-number number (y .number-is)
           (ap₂ (λ (a : Answer Circuit) (t : Columns). startCall a t leastEntries working) cell (f .2)
           ∙ start-fresh c (f .0) (f .1) working w
+          ∙ ap (λ (b : Bool). check b Ceiling (fitting size (startMoment c fresh))) within
           ∙ fitting-fits size (startMoment c fresh) first);
-      calls = λ h r call w within h′ number made.
+      calls = λ h r call w by h′ number made.
           let x = reached-keeps r in
           let t = x .1 .1 in
           let g = trace-ground (x .0) t in
           let k = x .1 .2 in
-          let a = answers call w (subst (λ (time : ℕ). Within p time call) (keeps-next L s c cell g k) within) (x .0) t in
+          let a = answers call w (subst (λ (time : ℕ). Within p time call) (keeps-next L s c cell g k) by) (x .0) t in
           answered-number number (call-went L s c cell g k call made .number-is) (a .1);
     }
       where

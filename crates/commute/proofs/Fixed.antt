@@ -32,7 +32,7 @@ use Rattle.rules.specs.Reach.{conductsAround, reach, disturbed, touched, recons
 use Rattle.rules.specs.Kept.{Channel, conducts, keeps, afterKept, keptFrom, kept}
 use Rattle.rules.specs.Sum.{Sum, leads, farEnd, overArms, drivenSum, ownSum, armOf, joinSums, nodeSum, undriven, newValue}
 use Rattle.rules.specs.Delay.{Load, drivenLoad, ownLoad, loadArm, joinLoads, nodeLoad, inOhms}
-use Rattle.rules.specs.Step.{target, delayBy, delayTo, inHorizon, nextChange, stepped, initial, started}
+use Rattle.rules.specs.Step.{target, exceeds, delayBy, delayTo, inHorizon, nextChange, stepped, stepExceeds, initial, started, startExceeds}
 use Rattle.rules.specs.Run.{soonest, patternTime}
 use Rattle.rules.proofs.State.{Numbered, numbers-same}
 use Rattle.rules.proofs.Arrive.{source-constant, source-letter, some-same, steppedChange, steppedFrom, stepped-from}
@@ -237,6 +237,11 @@ module _ {c d : Circuit} (e : Alike c d) where
   unfolding target
   target-alike s ks n = ap (λ (sum : Sum). newValue sum (valueAt s n)) (sum-here s ks n)
 
+  -- the same walks above the ceiling
+  pub exceeds-alike : (s : State) (ks : List Channel) (n : ℕ) → exceeds c s ks n ≡ exceeds d s ks n
+  unfolding exceeds
+  exceeds-alike s ks n = ap (λ (sum : Sum). sum .exceeds) (sum-here s ks n)
+
   -- the same delays
   pub delay-alike : (s : State) (ks : List Channel) (new n : ℕ) → delayTo c s ks new n ≡ delayTo d s ks new n
   unfolding delayTo delayBy
@@ -261,6 +266,14 @@ module _ {c d : Circuit} (e : Alike c d) where
   map-alike : (f g : ℕ → ℕ) → ((n : ℕ) → Numbered c n → f n ≡ g n) → map f (nodeNumbers c) ≡ map g (nodeNumbers d)
   map-alike f g h = numbers-same c f g h ∙ ap (map g) numbers-alike
 
+  -- so one of the nodes that are looked at exceeds it in both or in neither
+  some-exceeds-alike : (s : State) (test other : ℕ → Bool) → ((n : ℕ) → test n ≡ other n)
+      → someOf (λ (n : ℕ). test n && exceeds c s (kept c s) n) (nodeNumbers c) ≡ someOf (λ (n : ℕ). other n && exceeds d s (kept d s) n) (nodeNumbers d)
+  some-exceeds-alike s test other h =
+      some-same _ (λ (n : ℕ). other n && exceeds d s (kept d s) n) (nodeNumbers c)
+      (λ n m. ap₂ _&&_ (h n) (exceeds-alike s (kept c s) n ∙ ap (λ (ks : List Channel). exceeds d s ks n) (kept-alike s)))
+      ∙ ap (someOf (λ (n : ℕ). other n && exceeds d s (kept d s) n)) numbers-alike
+
   initial-alike : (p q : ℕ) → ((n : ℕ) → Numbered c n → sourceAt (nodeRecord c n .start) p ≡ sourceAt (nodeRecord d n .start) q) → initial c p ≡ initial d q
   unfolding initial
   initial-alike p q h = λ i. record {
@@ -280,6 +293,13 @@ module _ {c d : Circuit} (e : Alike c d) where
       ∙ (λ i. record { values = initial c p .values; changes = map-alike _ (startedChange d (initial c p)) (λ n k. started-change-alike (initial c p) n) i })
       ∙ ap (startedFrom d) (initial-alike p q h)
       ∙ sym (started-from d q)
+
+  -- which exceeds the ceiling in both or in neither
+  pub start-exceeds-alike : (p q : ℕ) → ((n : ℕ) → Numbered c n → sourceAt (nodeRecord c n .start) p ≡ sourceAt (nodeRecord d n .start) q) → startExceeds c p ≡ startExceeds d q
+  unfolding startExceeds
+  start-exceeds-alike p q h =
+      some-exceeds-alike (initial c p) (isInner c) (isInner d) inner-alike
+      ∙ ap (λ (s : State). someOf (λ (n : ℕ). isInner d n && exceeds d s (kept d s) n) (nodeNumbers d)) (initial-alike p q h)
 
   arrived-alike : (time p q : ℕ) (s : State) → ((n : ℕ) → scheduled (c .schedule) time n p (valueAt s n) ≡ scheduled (d .schedule) time n q (valueAt s n)) → arrived c time p s ≡ arrived d time q s
   unfolding arrived
@@ -302,6 +322,14 @@ module _ {c d : Circuit} (e : Alike c d) where
       ∙ (λ i. record { values = after .values; changes = map-alike _ (steppedChange d time s after) (λ n k. stepped-change-alike time s after n) i })
       ∙ ap (steppedFrom d time s) (arrived-alike time p q s h)
       ∙ sym (stepped-from d time q s)
+
+  -- which exceeds the ceiling in both or in neither
+  pub step-exceeds-alike : (time p q : ℕ) (s : State) → ((n : ℕ) → scheduled (c .schedule) time n p (valueAt s n) ≡ scheduled (d .schedule) time n q (valueAt s n)) → stepExceeds c time p s ≡ stepExceeds d time q s
+  unfolding stepExceeds
+  step-exceeds-alike time p q s h =
+      let after : State = arrived c time p s in
+      some-exceeds-alike after (reconsidered c s after) (reconsidered d s after) (reconsidered-alike s after)
+      ∙ ap (λ (z : State). someOf (λ (n : ℕ). reconsidered d s z n && exceeds d z (kept d z) n) (nodeNumbers d)) (arrived-alike time p q s h)
 
 module _ (φ : Fixing) (c : Circuit) where
   -- a fixed cell differs from the cell in its sources only
@@ -332,22 +360,29 @@ scheduled-fixed φ letters (t ∷ es) legal time n q present =
     (scheduled-fixed φ letters es (λ i h. legal (suc i) (omega arith)) time n q present)
 
 module _ (φ : Fixing) (c : Circuit) (legal : checkCircuit c ≡ answered c) where
+  -- each node's source in the fixed cell at a pattern is the cell's at the pattern with the letters fixed
+  start-source : (q n : ℕ) → Numbered (fixed φ c) n → sourceAt (nodeRecord (fixed φ c) n .start) q ≡ sourceAt (nodeRecord c n .start) (fixedPattern φ (c .letters) q)
+  start-source q n h =
+      ap (λ (m : Node). sourceAt (m .start) q) (fixed-node-record φ c n)
+      ∙ source-fixed φ (c .letters) (nodeRecord c n .start) q (legal-node legal (n - 2) (omega (arith, h .least, h .most, fixed-alike φ c .count-same)) .source)
+
+  -- and so is what the schedule puts
+  put-fixed : (time q : ℕ) (s : State) (n : ℕ) → scheduled (fixed φ c .schedule) time n q (valueAt s n) ≡ scheduled (c .schedule) time n (fixedPattern φ (c .letters) q) (valueAt s n)
+  unfolding fixed
+  put-fixed time q s n = scheduled-fixed φ (c .letters) (c .schedule) (λ i h. legal-entry legal i h .source-is) time n q (valueAt s n)
+
   -- the start of the fixed cell for a pattern is the cell's for the pattern with the letters fixed
   pub started-fixed : (q : ℕ) → started (fixed φ c) q ≡ started c (fixedPattern φ (c .letters) q)
-  started-fixed q = started-alike (fixed-alike φ c) q (fixedPattern φ (c .letters) q) (λ n h. source n (fixed-node-record φ c n) (omega (arith, h .least, h .most, fixed-alike φ c .count-same)))
-    where
-      source : (n : ℕ) → nodeRecord (fixed φ c) n ≡ fixedNode φ (nodeRecord c n) → n - 2 < length (c .nodes)
-          → sourceAt (nodeRecord (fixed φ c) n .start) q ≡ sourceAt (nodeRecord c n .start) (fixedPattern φ (c .letters) q)
-      source n r h =
-          ap (λ (m : Node). sourceAt (m .start) q) r ∙ source-fixed φ (c .letters) (nodeRecord c n .start) q (legal-node legal (n - 2) h .source)
-
-  schedule-is : fixed φ c .schedule ≡ map (fixedEntry φ) (c .schedule)
-  unfolding fixed
-  schedule-is = refl
+  started-fixed q = started-alike (fixed-alike φ c) q (fixedPattern φ (c .letters) q) (start-source q)
 
   -- and so is each step
   pub stepped-fixed : (time q : ℕ) (s : State) → stepped (fixed φ c) time q s ≡ stepped c time (fixedPattern φ (c .letters) q) s
-  stepped-fixed time q s =
-      stepped-alike (fixed-alike φ c) time q (fixedPattern φ (c .letters) q) s
-      (λ n. ap (λ (es : List Entry). scheduled es time n q (valueAt s n)) schedule-is
-      ∙ scheduled-fixed φ (c .letters) (c .schedule) (λ i h. legal-entry legal i h .source-is) time n q (valueAt s n))
+  stepped-fixed time q s = stepped-alike (fixed-alike φ c) time q (fixedPattern φ (c .letters) q) s (put-fixed time q s)
+
+  -- the start of the fixed cell exceeds the ceiling at a pattern exactly if the cell's does at the pattern with the letters fixed
+  pub start-exceeds-fixed : (q : ℕ) → startExceeds (fixed φ c) q ≡ startExceeds c (fixedPattern φ (c .letters) q)
+  start-exceeds-fixed q = start-exceeds-alike (fixed-alike φ c) q (fixedPattern φ (c .letters) q) (start-source q)
+
+  -- and so does each step
+  pub step-exceeds-fixed : (time q : ℕ) (s : State) → stepExceeds (fixed φ c) time q s ≡ stepExceeds c time (fixedPattern φ (c .letters) q) s
+  step-exceeds-fixed time q s = step-exceeds-alike (fixed-alike φ c) time q (fixedPattern φ (c .letters) q) s (put-fixed time q s)

@@ -1,32 +1,27 @@
 -- What is held after a list of calls: a moment of the run, in the columns and in the record.
 use mathlib.Core.Path.{_≡_, refl, sym, _∙_, ap, ap₂, subst}
-use mathlib.Core.Bool.{Bool, true}
-use mathlib.Core.Logic.{inl, inr}
-use mathlib.Core.List.{List, [], _∷_}
-use Prim.Native.Nat.{ℕ, _+_, _<_, _≤_}
+use mathlib.Core.List.{List}
+use Prim.Native.Nat.{ℕ, _<_, _≤_}
 use native.Mathlib.Omega.{arith}
 use lib.ListN.{length}
 use Rattle.refusal.specs.declared.Refusal.{Refusal}
-use Rattle.refusal.specs.declared.Refusal.the-variants.{Length, Header, Chain, Record, Order, Full, Unsound, Buffer, Question, Finished}
+use Rattle.refusal.specs.declared.Refusal.the-variants.{Length, Header, Chain, Record, Order, Full, Unsound, Buffer, Question, Finished, Ceiling}
 use Rattle.refusal.specs.Number.{refusalNumber}
 use Rattle.refusal.specs.Answer.{Answer, refused, answered, answerNumber}
-use Rattle.format.specs.Circuit.{Circuit, firstNodeNumber}
-use Rattle.format.specs.Legal.{checkCircuit}
+use Rattle.format.specs.Circuit.{Circuit}
 use Rattle.format.proofs.Legal.{legal-limits}
 use Rattle.diagram.specs.Pattern.{patterns}
 use Rattle.diagram.specs.Call.{Columns, columnsOf}
 use Rattle.diagram.proofs.Columns.{columns-length}
-use Rattle.rules.specs.State.{valueAt, changeAt}
-use Rattle.rules.specs.Run.{Run, Moment, stateOf, timeAfter, stepMoment}
-use Rattle.rules.specs.Call.{workingLegal, momentGiven, stepCall, runCall, askCall}
-use Rattle.rules.proofs.Moment.{SoundMoment}
-use Rattle.rules.proofs.RunSteps.{Rests, Steps}
+use Rattle.rules.specs.Run.{Run, Moment, stateOf, timeAfter}
+use Rattle.rules.specs.Call.{momentGiven, askCall}
+use Rattle.rules.proofs.RunSteps.{Rests}
 use Rattle.commute.specs.Interface.{Held, Interface}
 use Rattle.commute.specs.Lists.{Call, step, inPlace, upTo, Made, After, none, next}
 use Rattle.commute.specs.Demand.{timeHeld, stepTime, Stands}
 use Rattle.commute.specs.Alone.{Tells}
 use Rattle.commute.proofs.Lawful.{answerOf, left, Went, Long, Lawful}
-use Rattle.commute.proofs.Trace.{Ground, Trace, begun, stepped, trace-fits, trace-ground, steps-trace, onward, ground-given, step-answered, run-answered, run-rested, run-working, ground-ask, someWorking, some-working}
+use Rattle.commute.proofs.Trace.{Ground, Trace, begun, stepped, trace-ground, steps-trace, onward, ground-given, step-answered, run-answered, ground-ask}
 
 -- no refusal has the number 0
 refusal-positive : (why : Refusal) → refusalNumber why ≡ 0 → ⊥
@@ -40,6 +35,7 @@ refusal-positive Unsound e = omega arith
 refusal-positive Buffer e = omega arith
 refusal-positive Question e = omega arith
 refusal-positive Finished e = omega arith
+refusal-positive Ceiling e = omega arith
 
 -- so a call that gives 0 is answered
 pub number-answered : {A : Type 0} (answer : Answer A) → answerNumber answer ≡ 0 → (a : A) × (answer ≡ answered a)

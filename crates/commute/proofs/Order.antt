@@ -1,13 +1,12 @@
 -- The order of fixing letters and running makes no difference.
 use mathlib.Core.Path.{_≡_, sym, _∙_, ap}
 use mathlib.Core.Logic.{inl, inr, ⊎-elim}
-use mathlib.Core.Bool.{true}
-use Prim.Native.Nat.{ℕ, _+_, _≤_, _<_}
+use Prim.Native.Nat.{ℕ, _≤_, _<_}
 use native.Mathlib.Omega.{arith}
 use lib.ListN.{length}
 use Rattle.lists.proofs.Cases.{lt-or-ge}
 use Rattle.refusal.specs.Answer.{answered}
-use Rattle.format.specs.Circuit.{Circuit, firstNodeNumber}
+use Rattle.format.specs.Circuit.{Circuit}
 use Rattle.format.specs.Legal.{checkCircuit}
 use Rattle.format.specs.Fixing.{Fixing, fixed}
 use Rattle.diagram.specs.Pattern.{patterns}
@@ -19,18 +18,18 @@ use Rattle.diagram.proofs.Calls.{fresh-sound}
 use Rattle.rules.proofs.Moment.{SoundMoment, time-never, time-within, legal-few, start-sound, step-sound}
 use Rattle.rules.proofs.Admitted.{Admitted}
 use Rattle.rules.proofs.RunSteps.{Takes, Rests, Steps, stays, goes}
-use Rattle.commute.specs.Interface.{Held, Interface}
-use Rattle.commute.specs.Demand.{fixedPattern, SameAnswer, OrderMakesNoDifference}
+use Rattle.commute.specs.Interface.{Interface}
+use Rattle.commute.specs.Demand.{fixedPattern, OrderMakesNoDifference}
 use Rattle.commute.specs.Alone.{Alone, stepsAlone}
 use Rattle.commute.proofs.Fixed.{fixed-alike, pattern-lt}
 use Rattle.commute.proofs.Trace.{Ground, Trace, begun, stepped, fresh-ground, trace-sound, trace-ground, trace-steps, takes-not-rests, steps-through, StandsAt}
 use Rattle.commute.proofs.Cover.{covered-length}
-use Rattle.commute.proofs.Together.{legal′, sound-table, fixed-letters, stateAt, Abreast, start-abreast, next-abreast, both-step, first-steps}
+use Rattle.commute.proofs.Together.{legal′, sound-table, fixed-letters, stateAt, Abreast, start-abreast, next-abreast, fixing-keeps-start-within, fixing-keeps-step-within, both-step, first-steps}
 use Rattle.commute.proofs.Alone.{start-alone, steps-fixed}
 use Rattle.commute.proofs.Same.{same-states}
 use Rattle.commute.proofs.Lawful.{Lawful}
 use Rattle.commute.proofs.Keeps.{keeps-tells}
-use Rattle.commute.proofs.Begun.{reached-stands, not-refused}
+use Rattle.commute.proofs.Begun.{begun-within, reached-stands, not-refused}
 
 -- the fixed cell's moment beside one of the cell's
 pub record Beside (φ : Fixing) (c : Circuit) (size : ℕ) (m : Moment) : Type 0 where
@@ -56,6 +55,7 @@ module _ (φ : Fixing) (c : Circuit) {size : ℕ} (g : Ground c size (startMomen
   -- so the fixed cell's step beside an admitted one is admitted
   admitted-beside : {m m′ : Moment} → SoundMoment c m → SoundMoment d m′ → Abreast φ c m m′ → timeAfter c m < never → timeAfter d m′ ≡ timeAfter c m → Admitted c size m → Admitted d size m′
   admitted-beside s s′ a more same admitted = record {
+    within = fixing-keeps-step-within φ c legal a same (admitted .within);
     fits = fits-abreast (step-sound dlegal s′ (omega arith)) (both-step φ c legal a s s′ more same) (admitted .fits);
   }
 
@@ -136,7 +136,8 @@ unfolding OrderMakesNoDifference
 order-makes-no-difference {R = R} {K} L s fixed-one c φ cell cell′ size first reached p stands =
     let x = reached-stands L s c cell reached stands in
     let at = x .1 in (
-      not-refused L fixed-one (fixed φ c) cell′ (start-ground φ c (at .ground) .fits) p (steps-admitted φ c (at .ground) (at .trace) p (at .time) (at .rests)),
+      not-refused L fixed-one (fixed φ c) cell′ (fixing-keeps-start-within φ c (at .ground .legal) (begun-within L s c cell (reached .begun)))
+          (start-ground φ c (at .ground) .fits) p (steps-admitted φ c (at .ground) (at .trace) p (at .time) (at .rests)),
       λ second again there n q hn hq number value change number′ value′ change′ asked asked′.
           let x′ = reached-stands L fixed-one (fixed φ c) cell′ again there in
           let at′ = x′ .1 in

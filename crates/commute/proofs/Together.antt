@@ -1,12 +1,14 @@
 -- The runs of a cell and of the fixed cell, side by side: a moment of the first and the fixed one's moment abreast of it.
 use mathlib.Core.Path.{_≡_, refl, sym, _∙_, ap, ap₂}
 use mathlib.Core.Logic.{⊎-elim}
-use mathlib.Core.Bool.{Bool, cond}
+use mathlib.Core.Bool.{Bool, true, not, cond}
 use mathlib.Core.List.{List, [], _∷_, map}
 use Prim.Native.Nat.{ℕ, _≤_, _<_, min}
 use native.Mathlib.Omega.{arith}
 use lib.Dec.{ltb}
 use borrow.Author.Tests.{lt-ltb, le-ltb}
+use Rattle.lists.specs.Tests.{below}
+use Rattle.lists.proofs.Below.{below-each, each-below}
 use Rattle.lists.proofs.Cases.{lt-or-ge}
 use Rattle.refusal.specs.Answer.{answered}
 use Rattle.format.specs.declared.Entry.{Entry}
@@ -20,13 +22,13 @@ use Rattle.diagram.specs.Store.{fresh}
 use Rattle.diagram.proofs.Sound.{Sound}
 use Rattle.diagram.proofs.Calls.{fresh-sound}
 use Rattle.rules.specs.State.{State, valueAt, changeAt, nodeNumbers}
-use Rattle.rules.specs.Step.{started, stepped}
-use Rattle.rules.specs.Run.{soonest, patternTime, Moment, stateOf, storeAll, momentOf, startMoment, timeAfter, stepMoment}
+use Rattle.rules.specs.Step.{started, startExceeds, stepped, stepExceeds}
+use Rattle.rules.specs.Run.{soonest, patternTime, Moment, stateOf, storeAll, momentOf, startMoment, timeAfter, stepMoment, startWithin, stepWithin}
 use Rattle.rules.proofs.StoreAll.{all-stored}
 use Rattle.rules.proofs.Time.{keeps-before, next-own, next-least}
 use Rattle.rules.proofs.Moment.{SoundMoment, moment-ext, start-time, steppedStates, step-time, legal-few, start-state, moment-states, time-within, step-state, step-extends}
 use Rattle.commute.specs.Demand.{fixedPattern}
-use Rattle.commute.proofs.Fixed.{numbers-alike, fixed-alike, pattern-lt, pattern-time-fixed, started-fixed, stepped-fixed}
+use Rattle.commute.proofs.Fixed.{numbers-alike, fixed-alike, pattern-lt, pattern-time-fixed, started-fixed, stepped-fixed, start-exceeds-fixed, step-exceeds-fixed}
 use Rattle.commute.proofs.Cover.{Covered, covered-extends, covered-all, covered-fresh}
 
 -- a later now that is before the soonest time leaves the soonest time
@@ -118,6 +120,19 @@ module _ (φ : Fixing) (c : Circuit) (legal : checkCircuit c ≡ answered c) whe
   unfolding fixed
   sound-table s = s .table
 
+  -- what exceeds at no pattern of the cell exceeds at none of the fixed cell, whose patterns are some of the cell's
+  none-fixed : (test test′ : ℕ → Bool) → ((q : ℕ) → q < patterns (c .letters) → test′ q ≡ test (under φ c q))
+      → below (patterns (c .letters)) (λ p. not (test p)) ≡ true → below (patterns (fixed φ c .letters)) (λ q. not (test′ q)) ≡ true
+  unfolding fixed
+  none-fixed test test′ same e =
+      each-below (patterns (c .letters)) (λ q. not (test′ q))
+      (λ q h. ap not (same q h) ∙ below-each (patterns (c .letters)) (λ p. not (test p)) e (under φ c q) (fixed-pattern q h))
+
+  -- so fixing letters never brings refusal 11 to a start
+  pub fixing-keeps-start-within : startWithin c ≡ true → startWithin (fixed φ c) ≡ true
+  unfolding startWithin
+  fixing-keeps-start-within e = none-fixed (startExceeds c) (startExceeds (fixed φ c)) (λ q h. start-exceeds-fixed φ c legal q) e
+
   -- the two starts are abreast
   pub start-abreast : Abreast φ c (startMoment c fresh) (startMoment (fixed φ c) fresh)
   unfolding startMoment
@@ -153,6 +168,18 @@ module _ (φ : Fixing) (c : Circuit) (legal : checkCircuit c ≡ answered c) whe
     unfolding timeAfter fixed
     next-before q h = omega (arith, own-time q h, next-least (fixed φ c) (m′ .run .time) (stateAt (fixed φ c) m′) q (pattern-fixed q h))
 
+    -- the same next time: what the rules give in the fixed cell's step at a pattern they give in the cell's at the pattern with the letters fixed
+    same-step : timeAfter (fixed φ c) m′ ≡ timeAfter c m → {A : Type 0} (f : Circuit → ℕ → ℕ → State → A) → ((time q : ℕ) (x : State) → f (fixed φ c) time q x ≡ f c time (under φ c q) x)
+        → (q : ℕ) → q < patterns (c .letters) → f (fixed φ c) (timeAfter (fixed φ c) m′) q (stateAt (fixed φ c) m′ q) ≡ f c (timeAfter c m) (under φ c q) (stateAt c m (under φ c q))
+    same-step same f e q h =
+        e (timeAfter (fixed φ c) m′) q (stateAt (fixed φ c) m′ q) ∙ ap₂ (λ (time : ℕ) (x : State). f c time (under φ c q) x) same (a .states q h)
+
+    -- so fixing letters never brings refusal 11 to a step that the cell takes too
+    pub fixing-keeps-step-within : timeAfter (fixed φ c) m′ ≡ timeAfter c m → stepWithin c m ≡ true → stepWithin (fixed φ c) m′ ≡ true
+    unfolding stepWithin
+    fixing-keeps-step-within same e =
+        none-fixed (λ p. stepExceeds c (timeAfter c m) p (stateAt c m p)) _ (same-step same stepExceeds (step-exceeds-fixed φ c legal)) e
+
     module _ (s : SoundMoment c m) (s′ : SoundMoment (fixed φ c) m′) (more : timeAfter c m < never) where
       -- the same next time: both step
       pub both-step : timeAfter (fixed φ c) m′ ≡ timeAfter c m → Abreast φ c (stepMoment c m) (stepMoment (fixed φ c) m′)
@@ -161,8 +188,7 @@ module _ (φ : Fixing) (c : Circuit) (legal : checkCircuit c ≡ answered c) whe
           let d : Circuit = fixed φ c in
           let times : stepMoment d m′ .run .time ≡ stepMoment c m .run .time = step-time d m′ ∙ same ∙ sym (step-time c m) in
           let states : (q : ℕ) → q < patterns (c .letters) → steppedStates d m′ q ≡ steppedStates c m (under φ c q) =
-          λ q h. stepped-fixed φ c legal (timeAfter d m′) q (stateAt d m′ q)
-          ∙ ap₂ (λ (time : ℕ) (x : State). stepped c time (under φ c q) x) same (a .states q h) in
+          same-step same stepped (stepped-fixed φ c legal) in
           record {
             states = λ q h. step-state legal′ s′ q (pattern-fixed q h) ∙ states q h ∙ sym (step-state legal s (under φ c q) (fixed-pattern q h));
             behind = omega arith;

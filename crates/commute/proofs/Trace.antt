@@ -7,7 +7,7 @@ use native.Mathlib.Omega.{arith}
 use lib.ListN.{length}
 use lib.Dec.{leb, ltb}
 use borrow.Author.Tests.{le-leb, leb-true, ltb-true, lt-ltb}
-use Rattle.refusal.specs.declared.Refusal.the-variants.{Full, Buffer, Unsound, Finished, Question}
+use Rattle.refusal.specs.declared.Refusal.the-variants.{Full, Buffer, Unsound, Finished, Question, Ceiling}
 use Rattle.refusal.specs.Answer.{Answer, refused, answered, check}
 use Rattle.refusal.proofs.Answer.{same-answer, check-passed}
 use Rattle.lists.proofs.Cases.{and-left, and-right, and-both}
@@ -21,7 +21,7 @@ use Rattle.diagram.specs.Held.{leastEntries, mostEntries}
 use Rattle.diagram.proofs.Columns.{Lengths, lengths-record, lengths-test, columns-record, columns-lengths, columns-length, columns-sound-test, table-columns}
 use Rattle.diagram.proofs.Sound.{Sound, sound-test}
 use Rattle.diagram.proofs.Calls.{fresh-sound}
-use Rattle.rules.specs.Run.{Moment, stateOf, startMoment, timeAfter, stepMoment, fitting}
+use Rattle.rules.specs.Run.{Moment, stateOf, startMoment, timeAfter, stepMoment, startWithin, startAnswer}
 use Rattle.rules.specs.Call.{leastWorking, workingLegal, momentGiven, startCall, stepCall, runCall, askCall}
 use Rattle.rules.proofs.Moment.{SoundMoment, start-sound, step-sound, step-time, time-within}
 use Rattle.rules.proofs.Readable.{held-given, held-step, held-run, wireOf, held-ask}
@@ -102,11 +102,12 @@ some-working =
     (lengths-test someWorking (columns-lengths leastWorking fresh (omega arith) (omega arith) (omega arith)))
     (le-leb leastWorking (length (someWorking .letter)) (omega (arith, columns-length leastWorking fresh (omega arith))))
 
--- what an answered start says of its table: it is sound, and the answer is the start in it, which fits
+-- what an answered start says: its table is sound, and the answer is the start in it, which is within the ceiling and fits
 pub record Started (c : Circuit) (table : Columns) (used : ℕ) (m : Moment) : Type 0 where
   pub lengths : Lengths table
   pub sound : Sound (c .letters) (tableOf table used)
   pub is : m ≡ startMoment c (tableOf table used)
+  pub within : startWithin c ≡ true
   pub fits : length (startMoment c (tableOf table used) .table) ≤ length (table .letter)
 
 pub start-answered : (c : Circuit) (table : Columns) (used : ℕ) (working : Columns) (m : Moment) → startCall (answered c) table used working ≡ answered m → Started c table used m
@@ -114,12 +115,14 @@ unfolding startCall
 start-answered c table used working m e =
     let one = check-passed (lengthsLegal table && workingLegal working) Buffer _ m e in
     let two = check-passed (columnsSound (c .letters) table used) Unsound _ m (one .1) in
-    let three = check-passed (leb (length (startMoment c (tableOf table used) .table)) (length (table .letter))) Full (answered (startMoment c (tableOf table used))) m (two .1) in
+    let three = check-passed (startWithin c) Ceiling _ m (two .1) in
+    let four = check-passed (leb (length (startMoment c (tableOf table used) .table)) (length (table .letter))) Full (answered (startMoment c (tableOf table used))) m (three .1) in
     record {
       lengths = lengths-record table (and-left (lengthsLegal table) (workingLegal working) (one .0));
       sound = columns-record (c .letters) table used (two .0) .table;
-      is = sym (same-answer (three .1));
-      fits = leb-true (length (startMoment c (tableOf table used) .table)) (length (table .letter)) (three .0);
+      is = sym (same-answer (four .1));
+      within = three .0;
+      fits = leb-true (length (startMoment c (tableOf table used) .table)) (length (table .letter)) (four .0);
     }
 
 -- a run sets out from it
@@ -138,7 +141,7 @@ fresh-ground {c} legal least most fits = record { legal = legal; least = least; 
 
 -- the start in a fresh table
 pub start-fresh : (c : Circuit) {size : ℕ} → leastEntries ≤ size → size ≤ mostEntries → (working : Columns) → workingLegal working ≡ true
-    → startCall (answered c) (columnsOf size fresh) leastEntries working ≡ fitting size (startMoment c fresh)
+    → startCall (answered c) (columnsOf size fresh) leastEntries working ≡ startAnswer c size fresh
 unfolding startCall
 start-fresh c {size} least most working w =
     rw (

@@ -22,12 +22,12 @@ use Rattle.rules.specs.Label.{betweenInner}
 use Rattle.rules.specs.Kept.{Channel}
 use Rattle.rules.specs.Sum.{leads, farEnd, overArms, ownSum, nodeSum}
 use Rattle.rules.specs.Delay.{ownLoad, isEnd, nodeLoad}
-use Rattle.rules.specs.Step.{nextChange}
 use Rattle.rules.proofs.State.{Numbered}
 use Rattle.rules.proofs.Walk.{sum-driven, sum-own, sum-arms, load-end, load-own, load-arms, not-end-inner, leads-ends, ends-near}
 use Rattle.rules.proofs.Label.{IsNode, Joined, joined-refl, Between, Linked, Linked·same, Linked·over, linked-more, pieces-only, pieces-join}
-use Rattle.rules.proofs.Local.{Shared, Local, sum-local, load-local, change-local}
+use Rattle.rules.proofs.Local.{Shared, Local, sum-local, load-local}
 use Rattle.net.specs.Net.{nodesPlace, transistorsPlace, at, netTransistor, netCircuit, armsOf, netArms}
+use Rattle.plain.specs.Exceeded.{changeOrExceeded}
 use Rattle.plain.specs.Leaf.{isKept, leafState, leafChannels, netChannel}
 use Rattle.net.specs.Laid.{TransistorWithin}
 use Rattle.plain.specs.Ready.{Net}
@@ -35,6 +35,7 @@ use Rattle.net.proofs.Laying.{nodes-length, transistors-length, transistor-at}
 use Rattle.net.proofs.NodeArms.{arms-has}
 use Rattle.net.specs.Roots.{leafLength, seedsPlace, pendingPlace, rootsLength}
 use Rattle.plain.proofs.Cell.{inner-least, net-capacitance}
+use Rattle.plain.proofs.Exceeding.{or-exceeded-local}
 use Rattle.descent.specs.Settle.{leafAt, isSeeded, isOff, parts, isReached, pendingOf, settledAt, Roots, Calm}
 use Rattle.descent.specs.Piece.{isIn, isNear, Beside, Piece, isTouching, matters, soleSeed, Selected, Narrowed}
 use Rattle.descent.specs.Descend.{Inner}
@@ -353,8 +354,8 @@ module _ {net roots marks : List ℕ} {n : ℕ} (inner : Inner net n) (piece : P
     narrow-settles time =
         let q : ℕ = pendingOf time A in
         let own : Numbered c n = in-numbered n (piece .own) in
-        let next : nextChange c time (leafState c q A) (leafChannels c A) n ≡ nextChange c time (leafState c q B) (leafChannels c B) n =
-        change-local (piece-local q) n (piece .own) time (leaf-change c q A n own ∙ sym (leaf-change c q B n own)) in
+        let next : changeOrExceeded c time (leafState c q A) (leafChannels c A) n ≡ changeOrExceeded c time (leafState c q B) (leafChannels c B) n =
+        or-exceeded-local (piece-local q) n (piece .own) time (leaf-change c q A n own ∙ sym (leaf-change c q B n own)) in
         rw (same-reached, same-pending) (ap (λ (v : ℕ). cond (isReached c n A) v q) (sym next))
 
     -- a channel of the narrowed numbers is one of the numbers, and touches the piece

@@ -17,9 +17,9 @@ use Rattle.rules.specs.Label.{joined, betweenInner}
 use Rattle.rules.specs.Kept.{Channel}
 use Rattle.rules.specs.Matrix.{carriers}
 use Rattle.rules.specs.Sum.{farEnd}
-use Rattle.rules.proofs.State.{up-length, up-at}
-use Rattle.rules.proofs.Label.{IsNode, AllLegal, at-each, Joined, joined-sym, Linked·same, Linked·over, pieces-join, some-found, some-passes}
+use Rattle.rules.proofs.Label.{IsNode, AllLegal, Joined, joined-sym, Linked·same, Linked·over, pieces-join, some-found, some-passes}
 use Rattle.rules.proofs.Matrix.{at-member}
+use Rattle.rules.proofs.Nodes.{node-member, member-node}
 use Rattle.rules.proofs.Forest.{numbered}
 use Rattle.net.specs.Net.{transistorsPlace, at, netTransistor, netCircuit, armsFrom, armsOf, netArms}
 use Rattle.net.proofs.Laying.{transistors-length, transistor-at}
@@ -66,35 +66,19 @@ flags-listed c f g P more t m p =
     subst (λ (u : Transistor). List·Memᴰ u (carriers (keptBy g 0 (c .transistors)))) (sym is)
     (carried (keptBy g 0 (c .transistors)) (numbered (0 + i) (getD (c .transistors) i noTransistor)) (by-in g 0 (c .transistors) i few (rw o (more i few (subst P is p) (h .up)))))
 
--- node numbers are those of the node records
 module _ (c : Circuit) where
-  pub node-member : (m : ℕ) → IsNode (length (c .nodes)) m → List·Memᴰ m (nodeNumbers c)
-  node-member m h =
-      let small : m - 2 < length (nodeNumbers c) = omega (arith, up-length (length (c .nodes)) 2, h .least, h .most) in
-      let is : getD (nodeNumbers c) (m - 2) 0 ≡ m = up-at (length (c .nodes)) 2 (m - 2) 0 (omega (arith, h .least, h .most)) ∙ omega (arith, h .least) in
-      subst (λ (x : ℕ). List·Memᴰ x (nodeNumbers c)) is (at-member (nodeNumbers c) 0 (m - 2) small)
-
-  pub member-node : (m : ℕ) → List·Memᴰ m (nodeNumbers c) → IsNode (length (c .nodes)) m
-  member-node m at =
-      at-each (IsNode (length (c .nodes))) 0 (nodeNumbers c)
-      (λ i h.
-      let few : i < length (c .nodes) = omega (arith, up-length (length (c .nodes)) 2) in
-      let is : getD (nodeNumbers c) i 0 ≡ 2 + i = up-at (length (c .nodes)) 2 i 0 few in
-      record { least = omega (arith, is); most = omega (arith, is) })
-      m at
-
   -- a piece holds a seed exactly if one of its nodes is one
   module _ (n : ℕ) (numbers : List ℕ) where
     pub reached-seed : isReached c n numbers ≡ true → (m : ℕ) × IsNode (length (c .nodes)) m × (isSeeded numbers m ≡ true) × Joined (parts c numbers) n m
     unfolding isReached
     reached-seed e =
         let f = some-found (λ (m : ℕ). isSeeded numbers m && joined (parts c numbers) n m) (nodeNumbers c) e in
-        (f .0, member-node (f .0) (f .1), and-left (isSeeded numbers (f .0)) _ (f .2), and-right (isSeeded numbers (f .0)) _ (f .2))
+        (f .0, member-node c (f .0) (f .1), and-left (isSeeded numbers (f .0)) _ (f .2), and-right (isSeeded numbers (f .0)) _ (f .2))
 
     pub seed-reached : (m : ℕ) → IsNode (length (c .nodes)) m → isSeeded numbers m ≡ true → Joined (parts c numbers) n m → isReached c n numbers ≡ true
     unfolding isReached
     seed-reached m h s j =
-        some-passes (λ (m : ℕ). isSeeded numbers m && joined (parts c numbers) n m) (nodeNumbers c) m (node-member m h) (and-both (isSeeded numbers m) (joined (parts c numbers) n m) s j)
+        some-passes (λ (m : ℕ). isSeeded numbers m && joined (parts c numbers) n m) (nodeNumbers c) m (node-member c m h) (and-both (isSeeded numbers m) (joined (parts c numbers) n m) s j)
 
 module _ {net : List ℕ} (cell : Net net) (roots : List ℕ) where
   abbrev c : Circuit

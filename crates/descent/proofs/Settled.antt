@@ -11,29 +11,23 @@ use Rattle.lists.proofs.Cases.{bool-cases, and-left, and-right, and-both, or-ca
 use Rattle.format.specs.declared.Transistor.{Transistor}
 use Rattle.format.specs.Circuit.{Circuit, noTransistor}
 use Rattle.format.proofs.Legal.{LegalCell}
-use Rattle.diagram.specs.Pattern.{patterns}
-use Rattle.diagram.specs.Table.{Table, never}
-use Rattle.diagram.specs.Store.{store}
-use Rattle.diagram.proofs.Store.{store-ext}
 use Rattle.rules.specs.State.{State, valueAt, changeAt, isDriven, isInner}
-use Rattle.rules.specs.Arrive.{arrived}
 use Rattle.rules.specs.Label.{Labels, joined, pieces, only}
 use Rattle.rules.specs.Group.{groups, inGroup, ofGroup, isSeed}
 use Rattle.rules.specs.Reach.{reconsidered}
 use Rattle.rules.specs.Kept.{Channel, kept}
 use Rattle.rules.specs.Matrix.{carriers}
-use Rattle.rules.specs.Step.{nextChange, stepped, initial, started}
 use Rattle.rules.proofs.State.{Numbered, Shaped}
-use Rattle.rules.proofs.Arrive.{arrived-shaped, arrived-change, stepped-change}
-use Rattle.rules.proofs.Step.{initial-shaped, initial-change, started-change}
 use Rattle.rules.proofs.Label.{IsNode, AllLegal, all-legal, Joined, joined-refl, joined-trans, Linked, Linked·same, Linked·over, pieces-only, pieces-join, groups-join}
 use Rattle.rules.proofs.Reach.{touched-seed, seed-touched, test-seed, seed-test, seed-node, reconsidered-kept, group-path}
 use Rattle.rules.proofs.Forest.{kept-stems}
-use Rattle.rules.proofs.Local.{touches, Shared, Local, change-local}
+use Rattle.rules.proofs.Local.{touches, Shared, Local}
 use Rattle.net.specs.Roots.{keptPlace, pendingPlace}
+use Rattle.plain.specs.Exceeded.{changeOrExceeded}
 use Rattle.plain.specs.Leaf.{keptBy, isKept, leafState, leafChannels}
 use Rattle.plain.specs.Settle.{pendingAfter}
-use Rattle.descent.specs.Settle.{leafAt, isSeeded, isOff, parts, isReached, pendingOf, settledAt, settledBy, isOf}
+use Rattle.plain.proofs.Exceeding.{or-exceeded-local}
+use Rattle.descent.specs.Settle.{isSeeded, isOff, parts, isReached, pendingOf, settledAt, isOf}
 use Rattle.descent.proofs.Channels.{by-only, kept-by, leaf-change, leaf-values}
 use Rattle.descent.proofs.Reaching.{flags-of, flags-listed, reached-seed, seed-reached}
 
@@ -116,9 +110,9 @@ module _ (c : Circuit) (l : LegalCell c) (n : ℕ) where
 
     -- so the node has the same next change
     group-change : (time : ℕ) → isInner c n ≡ true → Numbered c n → changeAt s n ≡ q
-        → nextChange c time (leafState c q numbers) (leafChannels c numbers) n ≡ nextChange c time s (kept c s) n
+        → changeOrExceeded c time (leafState c q numbers) (leafChannels c numbers) n ≡ changeOrExceeded c time s (kept c s) n
     group-change time inner own e =
-        sym (change-local group-local n (and-both (isInner c n) (joined (groups c) n n) inner (joined-refl (groups c) n)) time (e ∙ sym (leaf-change c q numbers n own)))
+        sym (or-exceeded-local group-local n (and-both (isInner c n) (joined (groups c) n n) inner (joined-refl (groups c) n)) time (e ∙ sym (leaf-change c q numbers n own)))
 
   module _ (inner : isInner c n ≡ true) (own : Numbered c n) (numbers : List ℕ) where
     node : IsNode (length (c .nodes)) n
@@ -203,46 +197,17 @@ module _ (c : Circuit) (l : LegalCell c) (n : ℕ) where
 
     -- by the right numbers: the next change by rules 5 to 7 where the node is reconsidered, else the pending one
     pub settled : (time : ℕ) (before after : State) (pending : ℕ) (all : Bool) → Shaped c after → changeAt after n ≡ pendingAfter time pending → Right c before after pending n all numbers
-        → settledAt c time n numbers ≡ cond (all || reconsidered c before after n) (nextChange c time after (kept c after) n) (changeAt after n)
+        → settledAt c time n numbers ≡ cond (all || reconsidered c before after n) (changeOrExceeded c time after (kept c after) n) (changeAt after n)
     unfolding settledAt
     settled time before after pending all shaped e r =
         let q : pendingOf time numbers ≡ changeAt after n = ap (pendingAfter time) (r .pends) ∙ sym e in
-        rw q (by (isReached c n numbers) refl ∙ ap (λ (b : Bool). cond b (nextChange c time after (kept c after) n) (changeAt after n)) (reached-right r))
+        rw q (by (isReached c n numbers) refl ∙ ap (λ (b : Bool). cond b (changeOrExceeded c time after (kept c after) n) (changeAt after n)) (reached-right r))
       where
         by : (b : Bool) → isReached c n numbers ≡ b
-            → cond b (nextChange c time (leafState c (changeAt after n) numbers) (leafChannels c numbers) n) (changeAt after n)
-            ≡ cond b (nextChange c time after (kept c after) n) (changeAt after n)
+            → cond b (changeOrExceeded c time (leafState c (changeAt after n) numbers) (leafChannels c numbers) n) (changeAt after n)
+            ≡ cond b (changeOrExceeded c time after (kept c after) n) (changeAt after n)
         by true h =
             let s = reached-seed c n numbers h in
             let at : inGroup c n (s .0) ≡ true = in-group r (on r) (pieces-only c (ons r) (list-legal r (on r)) n (s .0) node (s .1) (s .3)) in
             group-change after shaped numbers (changeAt after n) (r .values) (r .keeps (s .0) (record { least = s .1 .least; most = s .1 .most }) at (s .2)) time inner own refl
         by false h = refl
-
-    -- a step
-    pub settled-step : (time p : ℕ) (s : State) → Right c s (arrived c time p s) (changeAt s n) n false numbers → settledAt c time n numbers ≡ changeAt (stepped c time p s) n
-    settled-step time p s r =
-        settled time s (arrived c time p s) (changeAt s n) false (arrived-shaped c time p s) (arrived-change c time p s n own) r
-        ∙ sym (stepped-change c time p s n own)
-
-    -- the start
-    pub settled-start : (p : ℕ) → Right c (initial c p) (initial c p) never n true numbers → settledAt c 0 n numbers ≡ changeAt (started c p) n
-    settled-start p r =
-        let z : changeAt (initial c p) n ≡ never = initial-change c p n own in
-        settled 0 (initial c p) (initial c p) never true (initial-shaped c p) z r
-        ∙ sym (started-change c p n own ∙ rw inner)
-
--- over all patterns: the stored function is that of the next changes after the step
-pub step-stored : (c : Circuit) → LegalCell c → (n : ℕ) → isInner c n ≡ true → Numbered c n → (time letters : ℕ) (w : Table) (roots : List ℕ) (states : ℕ → State)
-    → ((p : ℕ) → p < patterns letters → Right c (states p) (arrived c time p (states p)) (changeAt (states p) n) n false (leafAt letters w roots p))
-    → (t : Table) → store letters 0 (settledBy c time n letters w roots) t ≡ store letters 0 (λ p. changeAt (stepped c time p (states p)) n) t
-step-stored c legal n inner own time letters w roots states right t =
-    store-ext letters 0 (settledBy c time n letters w roots) (λ p. changeAt (stepped c time p (states p)) n) t
-    (λ p h. settled-step c legal n inner own (leafAt letters w roots p) time p (states p) (right p h))
-
--- and after the start
-pub start-stored : (c : Circuit) → LegalCell c → (n : ℕ) → isInner c n ≡ true → Numbered c n → (letters : ℕ) (w : Table) (roots : List ℕ)
-    → ((p : ℕ) → p < patterns letters → Right c (initial c p) (initial c p) never n true (leafAt letters w roots p))
-    → (t : Table) → store letters 0 (settledBy c 0 n letters w roots) t ≡ store letters 0 (λ p. changeAt (started c p) n) t
-start-stored c legal n inner own letters w roots right t =
-    store-ext letters 0 (settledBy c 0 n letters w roots) (λ p. changeAt (started c p) n) t
-    (λ p h. settled-start c legal n inner own (leafAt letters w roots p) p (right p h))

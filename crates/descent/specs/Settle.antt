@@ -13,8 +13,8 @@ use Rattle.rules.specs.State.{nodeNumbers}
 use Rattle.rules.specs.Label.{Labels, joined, pieces, some}
 use Rattle.rules.specs.Kept.{Channel}
 use Rattle.rules.specs.Matrix.{carriers}
-use Rattle.rules.specs.Step.{nextChange}
 use Rattle.net.specs.Roots.{keptPlace, leafLength, seedsPlace, pendingPlace, rootsLength}
+use Rattle.plain.specs.Exceeded.{changeOrExceeded}
 use Rattle.plain.specs.Leaf.{keptBy, leafState, leafChannels}
 use Rattle.plain.specs.Ready.{Leaf, Ranged}
 use Rattle.plain.specs.Settle.{pendingAfter}
@@ -47,11 +47,11 @@ pendingOf time numbers = pendingAfter time (getD numbers pendingPlace 0)
 abbrev pub pendingBy : ℕ → ℕ → Table → ℕ → ℕ → ℕ
 pendingBy time letters w e p = pendingAfter time (numberAt letters w e p)
 
--- the next change of node n by the numbers of one pattern
+-- the next change of node n by the numbers of one pattern, or that its walk exceeds the ceiling (plain's Exceeded)
 unfoldable pub settledAt : Circuit → ℕ → ℕ → List ℕ → ℕ
 settledAt c time n numbers =
     cond (isReached c n numbers)
-    (nextChange c time (leafState c (pendingOf time numbers) numbers) (leafChannels c numbers) n)
+    (changeOrExceeded c time (leafState c (pendingOf time numbers) numbers) (leafChannels c numbers) n)
     (pendingOf time numbers)
 
 -- the same over all patterns: what a descent stores

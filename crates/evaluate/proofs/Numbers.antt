@@ -10,10 +10,10 @@ use Rattle.format.specs.Circuit.{Circuit}
 use Rattle.rules.specs.State.{State, changeAt, isInner}
 use Rattle.rules.specs.Reach.{reconsidered}
 use Rattle.rules.specs.Kept.{kept}
-use Rattle.rules.specs.Step.{nextChange}
 use Rattle.net.specs.Net.{netCircuit}
 use Rattle.net.specs.Roots.{changePlace}
 use Rattle.net.proofs.Laying.{nodes-length}
+use Rattle.plain.specs.Exceeded.{changeOrExceeded}
 use Rattle.plain.specs.Ready.{Net}
 use Rattle.plain.specs.Shown.{Shows}
 use Rattle.plain.specs.Settle.{pendingAfter, considers, changeBetween, Between}
@@ -76,4 +76,4 @@ module _ {net numbers : List ℕ} {n : ℕ} (node : Inner net n) (w : Numbers nu
       let waits : changeAt t n ≡ pendingIn time numbers = leaf-change c (drop 26 numbers) (pendingIn time numbers) n (node .node .least) (omega (arith, nodes-length net, node .node .most)) in
       let moves : considers c all s t n ≡ (all || reconsidered c s t n) = all-inner all (isInner c n) (reconsidered c s t n) inner in
       is s t (values-first net numbers (node .cell) (omega (arith, w .long))) (values-first net (drop 26 numbers) (node .cell) (omega (arith, w .long, length-drop 26 numbers))) waits
-      ∙ (λ i. cond (moves i) (nextChange c time t (kept c t) n) (waits i))
+      ∙ (λ i. cond (moves i) (changeOrExceeded c time t (kept c t) n) (waits i))

@@ -1,6 +1,6 @@
 -- The listing of a run: its allowance of steps is enough, and its last line is an end or a refusal.
 use mathlib.Core.Path.{_≡_, refl, sym, _∙_, ap, subst}
-use mathlib.Core.List.{List, [], _∷_, _++_, append-nil, append-assoc}
+use mathlib.Core.List.{List, [], _++_, append-nil, append-assoc}
 use mathlib.Core.Bool.{Bool, true, false, cond}
 use Prim.Native.Nat.{ℕ, zero, suc, _+_, _<_, _≤_}
 use native.Mathlib.Omega.{arith}
@@ -8,10 +8,10 @@ use lib.ListN.{length}
 use lib.Dec.{leb, ltb, eqb}
 use borrow.Author.Tests.{ltb-true}
 use Rattle.refusal.specs.declared.Refusal.{Refusal}
-use Rattle.refusal.specs.declared.Refusal.the-variants.{Full, Finished}
+use Rattle.refusal.specs.declared.Refusal.the-variants.{Full, Finished, Ceiling}
 use Rattle.refusal.specs.Number.{refusalNumber}
-use Rattle.refusal.specs.Answer.{Answer, refused, answered, check}
-use Rattle.refusal.proofs.Answer.{refused-not-answered, same-answer, check-passed}
+use Rattle.refusal.specs.Answer.{Answer, refused, answered}
+use Rattle.refusal.proofs.Answer.{same-answer, check-passed}
 use Rattle.format.specs.Circuit.{Circuit, headerOf}
 use Rattle.format.specs.Legal.{checkCircuit}
 use Rattle.format.specs.File.{readCell}
@@ -19,7 +19,7 @@ use Rattle.format.proofs.Read.{read-checked}
 use Rattle.diagram.specs.Table.{never}
 use Rattle.diagram.specs.Store.{fresh}
 use Rattle.diagram.proofs.Calls.{fresh-sound}
-use Rattle.rules.specs.Run.{Moment, startMoment, timeAfter, stepMoment, fitting}
+use Rattle.rules.specs.Run.{Moment, startMoment, startWithin, startAnswer, timeAfter, stepMoment, fitting}
 use Rattle.rules.proofs.Moment.{SoundMoment, start-sound, step-sound, step-time, time-within}
 use Rattle.rules.proofs.Admitted.{Admitted, admitting, answer-admitted}
 use Rattle.fields.specs.Line.{cellLine, refusedLine}
@@ -92,11 +92,11 @@ module _ {c : Circuit} (legal : checkCircuit c ≡ answered c) (size : ℕ) wher
 -- the lines of a run come to their last
 run-ends : {c : Circuit} → checkCircuit c ≡ answered c → (size : ℕ) → Ended (runLines c size)
 unfolding runLines
-run-ends {c} legal size = from (fitting size (startMoment c fresh)) started
+run-ends {c} legal size = from (startAnswer c size fresh) started
   where
-    started : (m : Moment) → fitting size (startMoment c fresh) ≡ answered m → Ended (stepsFrom (suc (c .horizon .0)) c size 0 m)
+    started : (m : Moment) → startAnswer c size fresh ≡ answered m → Ended (stepsFrom (suc (c .horizon .0)) c size 0 m)
     started m e =
-        let x = check-passed (leb (length (startMoment c fresh .table)) size) Full (answered (startMoment c fresh)) m e in
+        let x = check-passed (leb (length (startMoment c fresh .table)) size) Full (answered (startMoment c fresh)) m (check-passed (startWithin c) Ceiling (fitting size (startMoment c fresh)) m e .1) in
         let s : SoundMoment c m = subst (SoundMoment c) (same-answer (x .1)) (start-sound legal (fresh-sound (c .letters))) in
         steps-end legal size (suc (c .horizon .0)) 0 s (omega arith)
 

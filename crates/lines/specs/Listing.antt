@@ -13,7 +13,7 @@ use Rattle.format.specs.File.{readCell}
 use Rattle.diagram.specs.Table.{never}
 use Rattle.diagram.specs.Store.{fresh}
 use Rattle.diagram.specs.Operation.{count}
-use Rattle.rules.specs.Run.{Moment, startMoment, timeAfter, stepMoment, fitting}
+use Rattle.rules.specs.Run.{Moment, startAnswer, timeAfter, stepAnswer}
 use Rattle.text.specs.Decimal.{spaced, ended}
 use Rattle.fields.specs.Line.{cellLine, refusedLine}
 
@@ -59,7 +59,7 @@ steppedLines c time before steps (answered m) = stepLines c before m
 
 -- the step of a moment in a table of some length
 abbrev pub stepOf : Circuit → ℕ → Moment → Answer Moment
-stepOf c size m = check (ltb (timeAfter c m) never) Finished (fitting size (stepMoment c m))
+stepOf c size m = check (ltb (timeAfter c m) never) Finished (stepAnswer c size m)
 
 -- what follows an answered call; nothing follows a refused one
 abbrev pub following : Answer Moment → (Moment → List ℕ) → List ℕ
@@ -77,7 +77,7 @@ stepsFrom (suc k) c size steps m =
 -- the start in a fresh table of some length, and what follows it
 unfoldable pub runLines : Circuit → ℕ → List ℕ
 runLines c size =
-    let answer = fitting size (startMoment c fresh) in
+    let answer = startAnswer c size fresh in
     startedLines c answer ++ following answer (stepsFrom (suc (c .horizon .0)) c size 0)
 
 unfoldable pub cellLines : Answer Circuit → ℕ → List ℕ

@@ -1,29 +1,29 @@
 -- An answered start or step: its moment is sound, its columns can be read, and their lines are those of the moment.
-use mathlib.Core.Path.{_≡_, refl, sym, _∙_, ap, ap₂}
+use mathlib.Core.Path.{_≡_, refl, sym, _∙_, ap}
 use mathlib.Core.List.{List, []}
 use mathlib.Core.Bool.{Bool, true, false, not, _&&_, _||_, cond}
-use Prim.Native.Nat.{ℕ, zero, suc, _+_, _<_, _≤_}
+use Prim.Native.Nat.{ℕ, _+_, _<_, _≤_}
 use native.Mathlib.Omega.{arith}
 use lib.ListN.{length, getD}
 use lib.Dec.{leb, ltb, eqb}
 use borrow.Author.Tests.{leb-true, ltb-true}
-use Rattle.refusal.specs.declared.Refusal.the-variants.{Full, Buffer, Unsound, Finished}
-use Rattle.refusal.specs.Answer.{Answer, refused, answered, check}
+use Rattle.refusal.specs.declared.Refusal.the-variants.{Full, Buffer, Unsound, Finished, Ceiling}
+use Rattle.refusal.specs.Answer.{Answer, refused, answered}
 use Rattle.refusal.proofs.Answer.{refused-not-answered, same-answer, check-passed}
 use Rattle.lists.proofs.Cases.{and-left}
 use Rattle.lists.proofs.Padded.{padded-read}
-use Rattle.format.specs.declared.Header.{Header}
-use Rattle.format.specs.Circuit.{Circuit, headerOf, firstNodeNumber}
+use Rattle.format.specs.Circuit.{Circuit, firstNodeNumber}
 use Rattle.format.specs.Legal.{mostNodes, checkCircuit}
 use Rattle.format.proofs.Check.{check-same}
 use Rattle.format.proofs.Legal.{legal-limits}
 use Rattle.diagram.specs.Table.{Table, never}
 use Rattle.diagram.specs.Operation.{count}
 use Rattle.diagram.specs.Call.{columns, Columns, lengthsLegal, tableOf, columnsOf, columnsSound}
+use Rattle.diagram.proofs.Sound.{Sound}
 use Rattle.diagram.specs.Held.{leastEntries, mostEntries, held}
 use Rattle.diagram.proofs.Columns.{Lengths, lengths-record, columns-record}
 use Rattle.rules.specs.Run as defined
-use Rattle.rules.specs.Run.{Moment, startMoment, timeAfter, fitting}
+use Rattle.rules.specs.Run.{Moment, startMoment, startWithin, startAnswer, timeAfter, fitting}
 use Rattle.rules.specs.Call.{workingLegal, withCell, momentGiven, soundTogether, startCall, stepCall}
 use Rattle.rules.proofs.Moment.{SoundMoment, legal-few, start-sound, step-sound}
 use Rattle.rules.proofs.Admitted.{admitting, answer-admitted}
@@ -52,12 +52,13 @@ with-answered {A} c next a e = from (checkCircuit c) refl e
     from (refused why) q k = refused-not-answered k
     from (answered d) q k = (q ∙ ap {B = Answer Circuit} answered (check-same q), ap next (sym (check-same q)) ∙ k)
 
--- a sound moment that fits
-pub fitting-holds : {c : Circuit} {size : ℕ} (next m : Moment) → checkCircuit c ≡ answered c → leastEntries ≤ size → size ≤ mostEntries → SoundMoment c next
-    → fitting size next ≡ answered m → Holding c size m
-fitting-holds {c} {size} next m legal least most s e =
-    let x = check-passed (leb (length (next .table)) size) Full (answered next) m e in
-    rw (← same-answer (x .1)) record { legal = legal; sound = s; fits = leb-true (length (next .table)) size (x .0); least = least; most = most }
+-- a start in a sound table that is within the ceiling and fits
+pub first-holds : {c : Circuit} {size : ℕ} (t : Table) (m : Moment) → checkCircuit c ≡ answered c → leastEntries ≤ size → size ≤ mostEntries → Sound (c .letters) t
+    → startAnswer c size t ≡ answered m → Holding c size m
+first-holds {c} {size} t m legal least most s e =
+    let within = check-passed (startWithin c) Ceiling (fitting size (startMoment c t)) m e in
+    let x = check-passed (leb (length (startMoment c t .table)) size) Full (answered (startMoment c t)) m (within .1) in
+    rw (← same-answer (x .1)) record { legal = legal; sound = start-sound legal s; fits = leb-true (length (startMoment c t .table)) size (x .0); least = least; most = most }
 
 -- an answered start
 pub start-holds : (c : Circuit) (table working : Columns) (used : ℕ) (m : Moment) → startCall (checkCircuit c) table used working ≡ answered m → Holding c (length (table .letter)) m
@@ -67,7 +68,7 @@ start-holds c table working used m e =
     let cell = with-answered c _ m (one .1) in
     let two = check-passed (columnsSound (c .letters) table used) Unsound _ m (cell .1) in
     let l : Lengths table = lengths-record table (and-left (lengthsLegal table) (workingLegal working) (one .0)) in
-    fitting-holds (startMoment c (tableOf table used)) m (cell .0) (l .least) (l .most) (start-sound (cell .0) (columns-record (c .letters) table used (two .0) .table)) (two .1)
+    first-holds (tableOf table used) m (cell .0) (l .least) (l .most) (columns-record (c .letters) table used (two .0) .table) (two .1)
 
 -- an answered step of a sound moment
 pub admitted-holds : {c : Circuit} {size : ℕ} {m next : Moment} → checkCircuit c ≡ answered c → leastEntries ≤ size → size ≤ mostEntries → SoundMoment c m → timeAfter c m < never

@@ -1,16 +1,15 @@
 -- The calls made one after the other print the listing.
-use mathlib.Core.Path.{_≡_, refl, sym, _∙_, ap, ap₂}
+use mathlib.Core.Path.{_≡_, refl, _∙_, ap, ap₂}
 use mathlib.Core.List.{List, [], _++_}
-use mathlib.Core.Bool.{Bool, true, false, not, _&&_, cond}
+use mathlib.Core.Bool.{true, not, cond}
 use Prim.Native.Nat.{ℕ, zero, suc, _+_, _<_, _≤_}
 use native.Mathlib.Omega.{arith}
 use lib.ListN.{length, getD, length-replicate}
-use lib.Dec.{leb, ltb, eqb}
+use lib.Dec.{ltb, eqb}
 use borrow.Author.Tests.{ltb-true}
-use Rattle.refusal.specs.declared.Refusal.the-variants.{Full, Finished}
-use Rattle.refusal.specs.Answer.{Answer, refused, answered, check}
-use Rattle.refusal.proofs.Answer.{same-answer, check-passed}
-use Rattle.lists.proofs.Cases.{and-both}
+use Rattle.refusal.specs.declared.Refusal.the-variants.{Finished}
+use Rattle.refusal.specs.Answer.{Answer, refused, answered}
+use Rattle.refusal.proofs.Answer.{check-passed}
 use Rattle.lists.proofs.Padded.{padded-read}
 use Rattle.format.specs.Circuit.{Circuit, headerOf}
 use Rattle.format.specs.Legal.{mostNodes, mostHorizon, checkCircuit}
@@ -24,22 +23,21 @@ use Rattle.diagram.specs.Held.{leastEntries, mostEntries}
 use Rattle.diagram.proofs.Calls.{fresh-sound}
 use Rattle.diagram.proofs.Columns.{columns-length}
 use Rattle.rules.specs.Run as defined
-use Rattle.rules.specs.Run.{Moment, startMoment, timeAfter, fitting}
-use Rattle.rules.specs.Call.{workingLegal, startCall, stepCall}
-use Rattle.rules.proofs.Moment.{SoundMoment, start-sound}
+use Rattle.rules.specs.Run.{Moment, startAnswer, timeAfter}
+use Rattle.rules.specs.Call.{workingLegal, stepCall}
 use Rattle.rules.proofs.Admitted.{admitting}
 use Rattle.rules.proofs.Readable.{held-step}
 use Rattle.record.specs.declared.Run.{Run}
 use Rattle.record.specs.Record.{recordOf}
 use Rattle.record.proofs.Record.{run-of-record}
-use Rattle.advance.specs.declared.Task.the-variants.{Start, Step}
+use Rattle.advance.specs.declared.Task.the-variants.{Step}
 use Rattle.advance.specs.Task.{runIn, taskCall}
 use Rattle.advance.specs.Went.{zeroed, runAfter, tableAfter, workingAfter}
 use Rattle.fields.specs.Line.{cellLine}
-use Rattle.lines.specs.Listing.{lineAt, linesOf, stepLines, startedLines, steppedLines, stepOf, following, stepsFrom, runLines, cellLines, listing}
+use Rattle.lines.specs.Listing.{lineAt, stepLines, startedLines, steppedLines, stepOf, following, stepsFrom, runLines, cellLines, listing}
 use Rattle.listing.specs.Printed.{noRun, printedSteps, printedRun, printedCell, printed}
 use Rattle.commute.proofs.Trace.{start-fresh}
-use Rattle.listing.proofs.Holding.{Holding, fitting-holds, admitted-holds, lines-same}
+use Rattle.listing.proofs.Holding.{Holding, first-holds, admitted-holds, lines-same}
 use Rattle.lines.proofs.Ends.{allowance-same}
 
 -- working stays legal: it is zero after an answered call
@@ -95,9 +93,9 @@ module _ {c : Circuit} (legal : checkCircuit c ≡ answered c) {size : ℕ} (lea
   unfolding printedRun runLines
   run-printed k enough =
       rw (legal, start-fresh c least most working w)
-      (from (fitting size (startMoment c fresh))
+      (from (startAnswer c size fresh)
       (λ m e.
-      let h : Holding c size m = fitting-holds (startMoment c fresh) m legal least most (start-sound legal (fresh-sound (c .letters))) e in
+      let h : Holding c size m = first-holds fresh m legal least most (fresh-sound (c .letters)) e in
       steps-printed k 0 h (zeroed working) (zeroed-legal working w)
       ∙ allowance-same legal size k (suc (c .horizon .0)) 0 (h .sound) (omega arith) (omega arith)))
     where

@@ -16,14 +16,15 @@ use Rattle.rules.specs.Label.{joined, betweenInner, only}
 use Rattle.rules.specs.Group.{groups, inGroup, ofGroup}
 use Rattle.rules.specs.Reach.{conductsAround, reach, disturbed, touched}
 use Rattle.rules.specs.Kept.{conducts, kept}
-use Rattle.rules.specs.Step.{nextChange}
 use Rattle.rules.proofs.State.{Numbered}
 use Rattle.rules.proofs.Label.{IsNode, joined-refl, only-of, only-in}
 use Rattle.rules.proofs.Reach.{end-piece, touched-seed, seed-touched, seed-node, reach-exactly, group-path}
 use Rattle.rules.proofs.Forest.{kept-stems}
-use Rattle.rules.proofs.Local.{touches, Shared, Local, change-local}
+use Rattle.rules.proofs.Local.{touches, Shared, Local}
 use Rattle.rules.specs.Matrix.{isKept, transistorAt, Matrix, linked, matrixAt, isHeld}
 use Rattle.rules.proofs.Matrix.{at-member, group-kept}
+use Rattle.plain.specs.Exceeded.{changeOrExceeded}
+use Rattle.plain.proofs.Exceeding.{or-exceeded-local}
 use Rattle.descent.specs.Settle.{isOf}
 use Rattle.descent.proofs.Channels.{by-only, kept-by, leaf-change}
 use Rattle.descent.proofs.Settled.{group-ends}
@@ -107,8 +108,8 @@ module _ (c : Circuit) (l : LegalCell c) (n : ℕ) where
         }
 
     -- the node has the same next change by rules 3 to 7
-    next-same : (time : ℕ) → isInner c n ≡ true → changeAt s n ≡ changeAt z n → nextChange c time s (kept c s) n ≡ nextChange c time z (kept c z) n
-    next-same time inner e = change-local read-local n (and-both (isInner c n) (joined (groups c) n n) inner (joined-refl (groups c) n)) time e
+    next-same : (time : ℕ) → isInner c n ≡ true → changeAt s n ≡ changeAt z n → changeOrExceeded c time s (kept c s) n ≡ changeOrExceeded c time z (kept c z) n
+    next-same time inner e = or-exceeded-local read-local n (and-both (isInner c n) (joined (groups c) n n) inner (joined-refl (groups c) n)) time e
 
   -- a seed of the group that it reaches is one in both
   seed-same : {b a y z : State} → SameRead c n b y → SameRead c n a z → isInner c n ≡ true → Numbered c n → touched c (reach c b a) b a n ≡ true → touched c (reach c y z) y z n ≡ true
@@ -148,7 +149,7 @@ module _ (c : Circuit) (l : LegalCell c) (n : ℕ) where
       let w : touched c (reach c (beforeState c one) (afterState c time one)) (beforeState c one) (afterState c time one) n ≡ touched c (reach c b a) b a n = touched-same hb ha inner own in
       let q : changeAt (afterState c time one) n ≡ changeAt (afterState c time other) n =
       leaf-change c (pendingIn time one) (drop 26 one) n own ∙ p ∙ sym (leaf-change c (pendingIn time other) (drop 26 other) n own) in
-      let x : nextChange c time (afterState c time one) (kept c (afterState c time one)) n ≡ nextChange c time (afterState c time other) (kept c (afterState c time other)) n =
+      let x : changeOrExceeded c time (afterState c time one) (kept c (afterState c time one)) n ≡ changeOrExceeded c time (afterState c time other) (kept c (afterState c time other)) n =
       next-same ha time inner q in
       ap₂ (λ (r : Bool) (v : ℕ). cond (all || (isInner c n && r)) v (pendingIn time one)) w x
-      ∙ ap (cond (all || (isInner c n && touched c (reach c b a) b a n)) (nextChange c time (afterState c time other) (kept c (afterState c time other)) n)) p
+      ∙ ap (cond (all || (isInner c n && touched c (reach c b a) b a n)) (changeOrExceeded c time (afterState c time other) (kept c (afterState c time other)) n)) p

@@ -21,13 +21,13 @@ use Rattle.rules.specs.Label.{some}
 use Rattle.rules.specs.Group.{groups, ofGroup}
 use Rattle.rules.specs.Reach.{reach, inputChanged, disturbed, touched}
 use Rattle.rules.specs.Kept.{kept}
-use Rattle.rules.specs.Step.{nextChange}
 use Rattle.rules.specs.Run.{StoredAll, storeAll}
 use Rattle.rules.proofs.State.{rail-value}
 use Rattle.rules.proofs.Reach.{reached-group}
 use Rattle.net.specs.Net.{lettersPlace, at, netCircuit}
 use Rattle.net.proofs.Laying.{nodes-length}
 use Rattle.net.specs.Roots.{rootsLength, changePlace}
+use Rattle.plain.specs.Exceeded.{changeOrExceeded}
 use Rattle.plain.specs.Ready.{Net, Noded}
 use Rattle.prepare.proofs.Reading.{laid-legal}
 use Rattle.functions.specs.Open.{Open}
@@ -147,7 +147,7 @@ module _ {net : List ℕ} (cell : Net net) {k : ℕ} {t : Table} {used : ℕ} {b
       from-rest : stirredFor c before after n ≡ false → changeFrom c time false n numbers ≡ pastOf time k t change p
       unfolding changeFrom
       from-rest quiet =
-          ap (λ (b : Bool). cond b (nextChange c time then (kept c then) n) (pendingIn time numbers)) (and-last (isInner c n) (touched c (reach c first then) first then n) (untouched quiet))
+          ap (λ (b : Bool). cond b (changeOrExceeded c time then (kept c then) n) (pendingIn time numbers)) (and-last (isInner c n) (touched c (reach c first then) first then n) (untouched quiet))
           ∙ ap (pendingAfter time) (entry-at changePlace (omega arith) ∙ ap (λ (x : ℕ). numberAt k t x p) (entries-change before after change (e .first .long) (e .second .long)))
 
       pub rest-change : (all : Bool) → (isInner (netCircuit net) n ≡ true → (all ≡ false) × (stirredFor (netCircuit net) before after n ≡ false))

@@ -15,13 +15,15 @@ use Rattle.rules.specs.Arrive.{arrived}
 use Rattle.rules.specs.Label.{Labels, pieces, ofPiece, some, only}
 use Rattle.rules.specs.Reach.{conductsAround, reach, disturbed, touched, reconsidered}
 use Rattle.rules.specs.Kept.{afterKept, keptFrom, kept}
-use Rattle.rules.specs.Step.{nextChange, stepped, initial, started}
+use Rattle.rules.specs.Step.{initial}
 use Rattle.rules.proofs.State.{Numbered, Shaped}
-use Rattle.rules.proofs.Arrive.{arrived-shaped, arrived-change, stepped-change}
-use Rattle.rules.proofs.Step.{initial-shaped, initial-change, started-change}
-use Rattle.rules.proofs.Local.{touches, Shared, Local, change-local}
+use Rattle.rules.proofs.Arrive.{arrived-shaped, arrived-change}
+use Rattle.rules.proofs.Step.{initial-shaped, initial-change}
+use Rattle.rules.proofs.Local.{touches, Shared, Local}
 use Rattle.net.specs.Roots.{afterPlace, changePlace}
-use Rattle.plain.specs.Settle.{pendingAfter}
+use Rattle.plain.specs.Exceeded.{changeOrExceeded}
+use Rattle.plain.specs.Settle.{pendingAfter, startedOrExceeded, steppedOrExceeded}
+use Rattle.plain.proofs.Exceeding.{or-exceeded-local, started-exceeded-change, stepped-exceeded-change}
 use Rattle.descent.proofs.Channels.{leaf-change, leaf-values}
 use Rattle.attempt.specs.Change.{pendingIn, beforeState, afterState, changeFrom}
 
@@ -52,7 +54,7 @@ module _ (c : Circuit) where
     kept-alike = kept-from (nodeNumbers c) 0 (c .transistors)
 
     -- and an inner node with the same pending change has the same next one
-    pub next-alike : (time n : ℕ) → isInner c n ≡ true → changeAt s n ≡ changeAt z n → nextChange c time s (kept c s) n ≡ nextChange c time z (kept c z) n
+    pub next-alike : (time n : ℕ) → isInner c n ≡ true → changeAt s n ≡ changeAt z n → changeOrExceeded c time s (kept c s) n ≡ changeOrExceeded c time z (kept c z) n
     next-alike time n inner e =
         let share : (m : ℕ) → Shared c (isInner c) s z m =
         λ m. ⊎-elim (λ (d : isDriven c m ≡ true). inr (d, h m)) (λ (d : isDriven c m ≡ false). inl (ap not d)) (bool-cases (isDriven c m)) in
@@ -62,7 +64,7 @@ module _ (c : Circuit) where
           ends = λ k _ _. (share (k .transistor .first), share (k .transistor .second));
           values = λ m _. h m;
         } in
-        change-local local n inner time e
+        or-exceeded-local local n inner time e
 
 -- the numbers of a pattern show the values before T and after it, and node n's pending change
 pub record Shown (c : Circuit) (before after : State) (n : ℕ) (numbers : List ℕ) : Type 0 where
@@ -73,7 +75,7 @@ pub record Shown (c : Circuit) (before after : State) (n : ℕ) (numbers : List 
 module _ (c : Circuit) (n : ℕ) (inner : isInner c n ≡ true) (own : Numbered c n) (numbers : List ℕ) where
   -- rules 2 to 7 by such numbers
   pub shown : (time : ℕ) (all : Bool) (before after : State) → Shaped c before → Shaped c after → changeAt after n ≡ pendingAfter time (changeAt before n) → Shown c before after n numbers
-      → changeFrom c time all n numbers ≡ cond (all || reconsidered c before after n) (nextChange c time after (kept c after) n) (changeAt after n)
+      → changeFrom c time all n numbers ≡ cond (all || reconsidered c before after n) (changeOrExceeded c time after (kept c after) n) (changeAt after n)
   unfolding changeFrom
   shown time all before after sb sa e r =
       let q : pendingIn time numbers ≡ changeAt after n = ap (pendingAfter time) (r .pending-is) ∙ sym e in
@@ -83,20 +85,29 @@ module _ (c : Circuit) (n : ℕ) (inner : isInner c n ≡ true) (own : Numbered 
       let p : changeAt after n ≡ changeAt (afterState c time numbers) n = sym (leaf-change c (pendingIn time numbers) (drop 26 numbers) n own ∙ q) in
       let w : reconsidered c before after n ≡ reconsidered c (beforeState c numbers) (afterState c time numbers) n =
       reconsidered-alike c before after (beforeState c numbers) (afterState c time numbers) hb ha n in
-      let x : nextChange c time after (kept c after) n ≡ nextChange c time (afterState c time numbers) (kept c (afterState c time numbers)) n =
+      let x : changeOrExceeded c time after (kept c after) n ≡ changeOrExceeded c time (afterState c time numbers) (kept c (afterState c time numbers)) n =
       next-alike c after (afterState c time numbers) ha time n inner p in
       sym (ap₂ (λ (b : Bool) (y : ℕ). cond (all || b) y (changeAt after n)) w x
-      ∙ ap (cond (all || reconsidered c (beforeState c numbers) (afterState c time numbers) n) (nextChange c time (afterState c time numbers) (kept c (afterState c time numbers)) n)) (sym q))
+      ∙ ap (cond (all || reconsidered c (beforeState c numbers) (afterState c time numbers) n) (changeOrExceeded c time (afterState c time numbers) (kept c (afterState c time numbers)) n)) (sym q))
 
   -- a step
-  pub shown-step : (time p : ℕ) (s : State) → Shaped c s → Shown c s (arrived c time p s) n numbers → changeFrom c time false n numbers ≡ changeAt (stepped c time p s) n
+  pub shown-step : (time p : ℕ) (s : State) → Shaped c s → Shown c s (arrived c time p s) n numbers → changeFrom c time false n numbers ≡ changeAt (steppedOrExceeded c time p s) n
   shown-step time p s sh r =
       shown time false s (arrived c time p s) sh (arrived-shaped c time p s) (arrived-change c time p s n own) r
-      ∙ sym (stepped-change c time p s n own)
+      ∙ sym (stepped-exceeded-change c time p s n own)
 
   -- the start
-  pub shown-start : (p : ℕ) → Shown c (initial c p) (initial c p) n numbers → changeFrom c 0 true n numbers ≡ changeAt (started c p) n
+  pub shown-start : (p : ℕ) → Shown c (initial c p) (initial c p) n numbers → changeFrom c 0 true n numbers ≡ changeAt (startedOrExceeded c p) n
   shown-start p r =
       let z : changeAt (initial c p) n ≡ never = initial-change c p n own in
       shown 0 true (initial c p) (initial c p) (initial-shaped c p) (initial-shaped c p) (z ∙ sym (ap (pendingAfter 0) z)) r
-      ∙ sym (started-change c p n own ∙ rw inner)
+      ∙ sym (started-exceeded-change c p n own ∙ rw inner)
+
+-- the values are those of the rules
+pub started-exceeded-value : (c : Circuit) (p n : ℕ) → valueAt (startedOrExceeded c p) n ≡ valueAt (initial c p) n
+unfolding startedOrExceeded
+started-exceeded-value c p n = refl
+
+pub stepped-exceeded-value : (c : Circuit) (time p : ℕ) (s : State) (n : ℕ) → valueAt (steppedOrExceeded c time p s) n ≡ valueAt (arrived c time p s) n
+unfolding steppedOrExceeded
+stepped-exceeded-value c time p s n = refl

@@ -17,12 +17,13 @@ use Rattle.diagram.proofs.Number.{numberAt-extends, number-second}
 use Rattle.table.specs.declared.Stop.{Stop}
 use Rattle.table.specs.Stop.{stopped}
 use Rattle.rules.specs.State.{State, valueAt, changeAt}
-use Rattle.rules.specs.Step.{stepped, initial, started}
+use Rattle.rules.specs.Step.{initial}
 use Rattle.rules.specs.Run.{stateOf}
 use Rattle.rules.proofs.State.{Numbered, value-place, change-place}
-use Rattle.rules.proofs.Arrive.{stepped-value}
-use Rattle.rules.proofs.Step.{initial-change, started-value, started-bits, stepped-bits}
+use Rattle.rules.proofs.Arrive.{arrived-bits}
+use Rattle.rules.proofs.Step.{initial-change, initial-bits}
 use Rattle.rules.proofs.Moment.{States, RunSound, sound-states, storedValues}
+use Rattle.plain.specs.Settle.{startedOrExceeded, steppedOrExceeded}
 use Rattle.record.specs.declared.Run.{Run}
 use Rattle.record.specs.Record.{runOf}
 use Rattle.record.specs.Leasts.{Leasts}
@@ -31,6 +32,7 @@ use Rattle.values.specs.All.{OutcomeAll}
 use Rattle.stir.specs.Pending.{PendingEntries, PendingLeasts}
 use Rattle.marked.specs.Changes.{changeOf, ValueEntries}
 use Rattle.moment.specs.ByNode.{ByNode}
+use Rattle.moment.proofs.Alike.{started-exceeded-value, stepped-exceeded-value}
 use Rattle.moment.proofs.Storing.{Numbering, placed-numbering, placed-within, values-placed, changes-placed, step-change, start-change}
 use Rattle.moment.proofs.Moments.{mid-sound, mid-extends, mid-long, mid-within, mid-number}
 
@@ -79,7 +81,7 @@ module _ (c : Circuit) (few : c .letters ≤ mostLetters) (t : Table) (s : Sound
 
 -- the states after a step of a run
 abbrev pub after : Circuit → ℕ → Table → Run → ℕ → State
-after c time t r p = stepped c time p (stateOf c t (runOf c r) p)
+after c time t r p = steppedOrExceeded c time p (stateOf c t (runOf c r) p)
 
 module _ (c : Circuit) (nodes : length (c .nodes) ≤ 24) (few : c .letters ≤ mostLetters) (t : Table) (s : Sound (c .letters) t) {l w h ix : List ℕ} {stop : Stop} {used : ℕ} {entries : List ℕ} where
   -- a step
@@ -112,7 +114,7 @@ module _ (c : Circuit) (nodes : length (c .nodes) ≤ 24) (few : c .letters ≤ 
     pub step-entries : ValueEntries (c .letters) (held l w h used) used ob × ValueEntries (c .letters) (held l w h used) used oa × PendingEntries used op
     step-entries = (
       rw lu at (values-placed c u su few _ b (value-in c few t s r rs u xu) befores (λ m k p i. states .bits p i .bit m k)),
-      rw lu at (values-placed c u su few _ a (mid-within c time (after c time t r) t few s o fits) afters (λ m k p i. stepped-bits c time p (stateOf c t (runOf c r) p) (states .bits p i) .bit m k)),
+      rw lu at (values-placed c u su few _ a (mid-within c time (after c time t r) t few s o fits) afters (λ m k p i. rw (stepped-exceeded-value c time p (stateOf c t (runOf c r) p) m) (arrived-bits c time p (stateOf c t (runOf c r) p) (states .bits p i) .bit m k))),
       rw lu at (changes-placed c u su g (change-in c few t s r rs u xu)),
     )
 
@@ -125,25 +127,25 @@ module _ (c : Circuit) (nodes : length (c .nodes) ≤ 24) (few : c .letters ≤ 
     pub step-functions : (n : ℕ) → Numbered c n → (p : ℕ) → p < patterns (c .letters) → changeOf c time false (c .letters) (held l w h used) ob oa op n p ≡ changeAt (after c time t r p) n
     step-functions =
         step-change c u ob oa op nodes (b .long) (a .long) time (r .time) (stateOf c t (runOf c r)) (states .shaped) (states .pending) befores
-        (record { number = λ m k p i. afters .number m k p i ∙ stepped-value c time p (stateOf c t (runOf c r) p) m })
+        (record { number = λ m k p i. afters .number m k p i ∙ stepped-exceeded-value c time p (stateOf c t (runOf c r) p) m })
         pendings
 
   -- a start
-  module _ (o : OutcomeAll t (storedValues c (started c) t) l w h ix stop used entries) (fits : stopped stop ≡ false) {oa : List ℕ} (a : ByNode 0 1 entries (length (c .nodes)) oa) where
+  module _ (o : OutcomeAll t (storedValues c (startedOrExceeded c) t) l w h ix stop used entries) (fits : stopped stop ≡ false) {oa : List ℕ} (a : ByNode 0 1 entries (length (c .nodes)) oa) where
     abbrev v : Table
     v = held l w h used
 
     first-sound : Sound (c .letters) v
-    first-sound = mid-sound c 0 (started c) t few s o fits
+    first-sound = mid-sound c 0 (startedOrExceeded c) t few s o fits
 
     first-long : length v ≡ used
-    first-long = mid-long c 0 (started c) t few s o fits
+    first-long = mid-long c 0 (startedOrExceeded c) t few s o fits
 
-    firsts : Numbering c v (λ p m. valueAt (started c p) m) oa
-    firsts = placed-numbering c a v (λ p m. valueAt (started c p) m) (mid-number c 0 (started c) t few s o fits)
+    firsts : Numbering c v (λ p m. valueAt (startedOrExceeded c p) m) oa
+    firsts = placed-numbering c a v (λ p m. valueAt (startedOrExceeded c p) m) (mid-number c 0 (startedOrExceeded c) t few s o fits)
 
     initials : Numbering c v (λ p m. valueAt (initial c p) m) oa
-    initials = record { number = λ m k p i. firsts .number m k p i ∙ started-value c p m }
+    initials = record { number = λ m k p i. firsts .number m k p i ∙ started-exceeded-value c p m }
 
     nothing : (j : ℕ) → j < 26 → _≡_ {A = ℕ} (getD (replicate 26 2) j 0) 2
     nothing j h = getD-replicate 26 j 2 0 h
@@ -155,7 +157,7 @@ module _ (c : Circuit) (nodes : length (c .nodes) ≤ 24) (few : c .letters ≤ 
 
     pub start-entries : ValueEntries (c .letters) (held l w h used) used oa × ValueEntries (c .letters) (held l w h used) used oa × PendingEntries used (replicate 26 2)
     start-entries =
-        let both : ValueEntries (c .letters) v (length v) oa = values-placed c v first-sound few _ a (mid-within c 0 (started c) t few s o fits) firsts (λ m k p i. started-bits c p .bit m k) in
+        let both : ValueEntries (c .letters) v (length v) oa = values-placed c v first-sound few _ a (mid-within c 0 (startedOrExceeded c) t few s o fits) firsts (λ m k p i. rw (started-exceeded-value c p m) (initial-bits c p .bit m k)) in
         let e : PendingEntries (length v) (replicate 26 2) = record { long = refl; within = λ j i. omega (arith, nothing j i, first-sound .three) } in
         (rw first-long at both, rw first-long at both, rw first-long at e)
 
@@ -165,5 +167,5 @@ module _ (c : Circuit) (nodes : length (c .nodes) ≤ 24) (few : c .letters ≤ 
     start-leasts long ground supply rest j i = leasts-less (leasts-three few first-sound _ (omega arith) ground supply rest) (omega (arith, nothing j i))
 
     pub start-functions : (n : ℕ) → Numbered c n → (p : ℕ) → p < patterns (c .letters)
-        → changeOf c 0 true (c .letters) (held l w h used) oa oa (replicate 26 2) n p ≡ changeAt (started c p) n
+        → changeOf c 0 true (c .letters) (held l w h used) oa oa (replicate 26 2) n p ≡ changeAt (startedOrExceeded c p) n
     start-functions = start-change c v oa oa (replicate 26 2) nodes (a .long) (a .long) initials initials nones

@@ -17,12 +17,16 @@ use Rattle.diagram.proofs.Sound.{Sound}
 use Rattle.diagram.proofs.Number.{number-zeroth, number-first}
 use Rattle.rules.specs.State.{State, valueAt, changeAt, isDriven, isInner, nodeNumbers}
 use Rattle.rules.specs.Arrive.{flips, arrived}
-use Rattle.rules.specs.Step.{stepped, initial, started}
+use Rattle.rules.specs.Kept.{kept}
+use Rattle.rules.specs.Step.{initial}
 use Rattle.rules.specs.Run.{storeAll}
 use Rattle.rules.proofs.State.{Numbered, Shaped, Pending, up-length, up-at, at-place, node-cases}
-use Rattle.rules.proofs.Arrive.{arrived-change, untouched-keeps}
-use Rattle.rules.proofs.Step.{input-not-reconsidered, started-change, startedChange}
+use Rattle.rules.proofs.Arrive.{arrived-change}
+use Rattle.rules.proofs.Step.{input-not-reconsidered, initial-change}
 use Rattle.rules.proofs.StoreAll.{noFunction, storeAll-ext}
+use Rattle.plain.specs.Exceeded.{changeOrExceeded}
+use Rattle.plain.specs.Settle.{startedOrExceeded, steppedOrExceeded}
+use Rattle.plain.proofs.Exceeding.{started-exceeded-change, stepped-exceeded-change}
 use Rattle.descent.specs.Settle.{leafAt}
 use Rattle.stir.specs.Pending.{PendingEntries}
 use Rattle.marked.specs.Changes.{entriesFor, changeOf, ValueEntries}
@@ -119,9 +123,10 @@ node-kind c n h =
     not-false false e = sym e
 
 -- an input has no next change after a step
-input-rests : (c : Circuit) (time p now : ℕ) (s : State) → Pending c now s → (n : ℕ) → Numbered c n → isInput c n ≡ true → changeAt (stepped c time p s) n ≡ never
+input-rests : (c : Circuit) (time p now : ℕ) (s : State) → Pending c now s → (n : ℕ) → Numbered c n → isInput c n ≡ true → changeAt (steppedOrExceeded c time p s) n ≡ never
 input-rests c time p now s rest n h e =
-    untouched-keeps c time p s n h (input-not-reconsidered c s (arrived c time p s) n e)
+    stepped-exceeded-change c time p s n h
+    ∙ ap (λ (b : Bool). cond b (changeOrExceeded c time (arrived c time p s) (kept c (arrived c time p s)) n) (changeAt (arrived c time p s) n)) (input-not-reconsidered c s (arrived c time p s) n e)
     ∙ arrived-change c time p s n h
     ∙ either (flips s time n) (changeAt s n) (rest .inputs-rest n h e)
   where
@@ -145,7 +150,7 @@ module _ (c : Circuit) (u : Table) (before after pending : List ℕ) (nodes : le
   -- a step
   pub step-change : (time now : ℕ) (s : ℕ → State) → ((p : ℕ) → p < patterns (c .letters) → Shaped c (s p)) → ((p : ℕ) → p < patterns (c .letters) → Pending c now (s p))
       → Numbering c u (λ p m. valueAt (s p) m) before → Numbering c u (λ p m. valueAt (arrived c time p (s p)) m) after → Numbering c u (λ p m. changeAt (s p) m) pending
-      → (n : ℕ) → Numbered c n → (p : ℕ) → p < patterns (c .letters) → changeOf c time false (c .letters) u before after pending n p ≡ changeAt (stepped c time p (s p)) n
+      → (n : ℕ) → Numbered c n → (p : ℕ) → p < patterns (c .letters) → changeOf c time false (c .letters) u before after pending n p ≡ changeAt (steppedOrExceeded c time p (s p)) n
   step-change time now s shaped rest hb ha hp n h p l =
       ⊎-elim
       (λ (e : isInner c n ≡ true). rw e (shown-step c n e h (numbers n p) time p (s p) (shaped p l) (shows s (λ q. arrived c time q (s q)) hb ha hp n h p l)))
@@ -154,12 +159,9 @@ module _ (c : Circuit) (u : Table) (before after pending : List ℕ) (nodes : le
 
   -- the start
   pub start-change : Numbering c u (λ p m. valueAt (initial c p) m) before → Numbering c u (λ p m. valueAt (initial c p) m) after → Numbering c u (λ p m. changeAt (initial c p) m) pending
-      → (n : ℕ) → Numbered c n → (p : ℕ) → p < patterns (c .letters) → changeOf c 0 true (c .letters) u before after pending n p ≡ changeAt (started c p) n
+      → (n : ℕ) → Numbered c n → (p : ℕ) → p < patterns (c .letters) → changeOf c 0 true (c .letters) u before after pending n p ≡ changeAt (startedOrExceeded c p) n
   start-change hb ha hp n h p l =
       ⊎-elim
       (λ (e : isInner c n ≡ true). rw e (shown-start c n e h (numbers n p) p (shows (initial c) (initial c) hb ha hp n h p l)))
-      (λ (e : (isInner c n ≡ false) × (isInput c n ≡ true)). rw (e .0) (sym (started-change c p n h ∙ none (e .0))))
+      (λ (e : (isInner c n ≡ false) × (isInput c n ≡ true)). rw (e .0) (sym (started-exceeded-change c p n h ∙ rw (e .0) (initial-change c p n h))))
       (node-kind c n h)
-    where
-      none : isInner c n ≡ false → startedChange c (initial c p) n ≡ never
-      none e = rw e

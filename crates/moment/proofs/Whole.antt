@@ -1,5 +1,5 @@
 -- A start and a step of the cell that a flat column lays out: what their calls require, and what they leave.
-use mathlib.Core.Path.{_≡_, refl, sym, ap, subst}
+use mathlib.Core.Path.{_≡_, sym, ap, subst}
 use mathlib.Core.List.{List, map}
 use mathlib.Core.Bool.{true, false}
 use Prim.Native.Nat.{ℕ, _≤_, _<_}
@@ -16,12 +16,13 @@ use Rattle.functions.specs.Open.{Open}
 use Rattle.functions.proofs.Carry.{legible-sound, legible-long}
 use Rattle.rules.specs.State.{valueAt, changeAt, nodeNumbers}
 use Rattle.rules.specs.Step.{stepped, started}
-use Rattle.rules.specs.Run.{stateOf, storeAll, momentOf, startMoment, timeAfter, stepMoment, runSound}
+use Rattle.rules.specs.Run.{stateOf, storeAll, momentOf, timeAfter, runSound}
 use Rattle.rules.proofs.State.{Numbered}
 use Rattle.rules.proofs.Moment.{RunSound, run-record, legal-few, storedValues}
 use Rattle.net.specs.Net.{nodesPlace, lettersPlace, at, netCircuit}
 use Rattle.net.specs.Laid.{Laid}
 use Rattle.net.proofs.Laying.{nodes-length, letters-at}
+use Rattle.plain.specs.Settle.{startedOrExceeded, steppedOrExceeded}
 use Rattle.record.specs.declared.Run.{Run}
 use Rattle.record.specs.Record.{runOf}
 use Rattle.record.specs.Moments.{momentHeld}
@@ -29,6 +30,7 @@ use Rattle.record.specs.Leasts.{Leasts}
 use Rattle.values.specs.All.{OutcomeAll}
 use Rattle.stir.specs.Pending.{PendingEntries, PendingLeasts}
 use Rattle.marked.specs.Changes.{changeOf, ValueEntries}
+use Rattle.moment.specs.Exceeded.{startOrExceeded, stepOrExceeded}
 use Rattle.moment.specs.ByNode.{ByNode, Gathers}
 use Rattle.moment.specs.Next.{NextAs}
 use Rattle.moment.proofs.Moments.{values-over, mid-open, mid-next}
@@ -61,20 +63,21 @@ module _ {net l w h ix : List ℕ} {old : ℕ} (k : Laid (netCircuit net) net) (
   -- a start whose values are stored
   module _ {l₁ w₁ h₁ ix₁ : List ℕ} {stop : Stop} {used : ℕ} {entries : List ℕ}
       (o : OutcomeAll (held l w h old) (storeAll (at net lettersPlace) (map (λ (n : ℕ) (p : ℕ). valueAt (started (netCircuit net) p) n) (nodeNumbers (netCircuit net))) (held l w h old)) l₁ w₁ h₁ ix₁ stop used entries) where
-    firsts : OutcomeAll t (storedValues c (started c) t) l₁ w₁ h₁ ix₁ stop used entries
+    firsts : OutcomeAll t (storedValues c (startedOrExceeded c) t) l₁ w₁ h₁ ix₁ stop used entries
+    unfolding started startedOrExceeded
     firsts =
         subst
         (λ (m : ℕ). OutcomeAll t (storeAll m (map (λ (n : ℕ) (p : ℕ). valueAt (started c p) n) (nodeNumbers c)) t) l₁ w₁ h₁ ix₁ stop used entries)
         (sym (letters-at net)) o
 
     -- without room
-    pub start-over : stopped stop ≡ true → {none : Stop} (r : Run) → none ≡ stop → NextAs (held l w h old) (startMoment (netCircuit net) (held l w h old)) l₁ w₁ h₁ ix₁ none r
-    unfolding startMoment
-    start-over e r q = values-over c 0 (started c) t few sound firsts e r q
+    pub start-over : stopped stop ≡ true → {none : Stop} (r : Run) → none ≡ stop → NextAs (held l w h old) (startOrExceeded (netCircuit net) (held l w h old)) l₁ w₁ h₁ ix₁ none r
+    unfolding startOrExceeded
+    start-over e r q = values-over c 0 (startedOrExceeded c) t few sound firsts e r q
 
     module _ (fits : stopped stop ≡ false) {oa : List ℕ} (a : ByNode 0 1 entries (at net nodesPlace) oa) where
       pub start-open : Open (at net lettersPlace) l₁ w₁ h₁ ix₁ used
-      start-open = subst (λ (m : ℕ). Open m l₁ w₁ h₁ ix₁ used) (letters-at net) (mid-open c 0 (started c) t few sound firsts fits)
+      start-open = subst (λ (m : ℕ). Open m l₁ w₁ h₁ ix₁ used) (letters-at net) (mid-open c 0 (startedOrExceeded c) t few sound firsts fits)
 
       pub start-requires : ValueEntries (at net lettersPlace) (held l₁ w₁ h₁ used) used oa × ValueEntries (at net lettersPlace) (held l₁ w₁ h₁ used) used oa × PendingEntries used (replicate 26 2)
       start-requires =
@@ -90,11 +93,11 @@ module _ {net l w h ix : List ℕ} {old : ℕ} (k : Laid (netCircuit net) net) (
       pub start-next : {l₂ w₂ h₂ ix₂ : List ℕ} {stop₂ : Stop} {used₂ : ℕ} {entries₂ : List ℕ} {none : Stop} {r : Run}
           → OutcomeAll (held l₁ w₁ h₁ used) (storeAll (at net lettersPlace) (map (changeOf (netCircuit net) 0 true (at net lettersPlace) (held l₁ w₁ h₁ used) oa oa (replicate 26 2)) (nodeNumbers (netCircuit net))) (held l₁ w₁ h₁ used)) l₂ w₂ h₂ ix₂ stop₂ used₂ entries₂
           → Gathers 0 entries stop₂ used₂ entries₂ none r
-          → NextAs (held l w h old) (startMoment (netCircuit net) (held l w h old)) l₂ w₂ h₂ ix₂ none r
-      unfolding startMoment
+          → NextAs (held l w h old) (startOrExceeded (netCircuit net) (held l w h old)) l₂ w₂ h₂ ix₂ none r
+      unfolding startOrExceeded
       start-next {l₂} {w₂} {h₂} {ix₂} {stop₂} {used₂} {entries₂} o₂ g =
           let u : Table = held l₁ w₁ h₁ used in
-          mid-next c 0 (started c) t few sound firsts fits (start-functions c nodes few t sound firsts fits (by-count net a))
+          mid-next c 0 (startedOrExceeded c) t few sound firsts fits (start-functions c nodes few t sound firsts fits (by-count net a))
           (subst (λ (m : ℕ). OutcomeAll u (storeAll m (map (changeOf c 0 true m u oa oa (replicate 26 2)) (nodeNumbers c)) u) l₂ w₂ h₂ ix₂ stop₂ used₂ entries₂) (sym (letters-at net)) o₂) g
 
 -- a step whose values are stored
@@ -110,13 +113,14 @@ module _ {net l w h ix : List ℕ} (r : Run) (k : Laid (netCircuit net) net) (io
   facts : RunSound d v (runOf d r)
   facts = run-record d v (runOf d r) rs
 
-  moment-is : momentOf d time (after d time v r) v ≡ stepMoment d (momentHeld l w h (runOf d r))
-  unfolding stepMoment
+  moment-is : momentOf d time (after d time v r) v ≡ stepOrExceeded d (momentHeld l w h (runOf d r))
+  unfolding stepOrExceeded
   moment-is = ap (λ (z : ℕ). momentOf d z (after d z v r) v) te
 
   module _ {l₁ w₁ h₁ ix₁ : List ℕ} {stop : Stop} {used : ℕ} {entries : List ℕ}
       (o : OutcomeAll (held l w h (r .used)) (storeAll (at net lettersPlace) (map (λ (n : ℕ) (p : ℕ). valueAt (stepped (netCircuit net) time p (stateOf (netCircuit net) (held l w h (r .used)) (runOf (netCircuit net) r) p)) n) (nodeNumbers (netCircuit net))) (held l w h (r .used))) l₁ w₁ h₁ ix₁ stop used entries) where
     values : OutcomeAll v (storedValues d (after d time v r) v) l₁ w₁ h₁ ix₁ stop used entries
+    unfolding stepped steppedOrExceeded
     values =
         subst
         (λ (m : ℕ). OutcomeAll v (storeAll m (map (λ (n : ℕ) (p : ℕ). valueAt (after d time v r p) n) (nodeNumbers d)) v) l₁ w₁ h₁ ix₁ stop used entries)
@@ -124,7 +128,7 @@ module _ {net l w h ix : List ℕ} (r : Run) (k : Laid (netCircuit net) net) (io
 
     -- without room
     pub step-over : stopped stop ≡ true → {none : Stop} (x : Run) → none ≡ stop
-        → NextAs (held l w h (r .used)) (stepMoment (netCircuit net) (momentHeld l w h (runOf (netCircuit net) r))) l₁ w₁ h₁ ix₁ none x
+        → NextAs (held l w h (r .used)) (stepOrExceeded (netCircuit net) (momentHeld l w h (runOf (netCircuit net) r))) l₁ w₁ h₁ ix₁ none x
     step-over e x q = rw moment-is at (values-over d time (after d time v r) v (few k io) (sound k io) values e x q)
 
     module _ (fits : stopped stop ≡ false) {ob oa op : List ℕ} (b : ByNode 0 1 (r .values) (at net nodesPlace) ob) (a : ByNode 0 1 entries (at net nodesPlace) oa) (g : ByNode 2 2 (r .changes) (at net nodesPlace) op) where
@@ -148,7 +152,7 @@ module _ {net l w h ix : List ℕ} (r : Run) (k : Laid (netCircuit net) net) (io
       pub step-next : {l₂ w₂ h₂ ix₂ : List ℕ} {stop₂ : Stop} {used₂ : ℕ} {entries₂ : List ℕ} {none : Stop} {x : Run}
           → OutcomeAll (held l₁ w₁ h₁ used) (storeAll (at net lettersPlace) (map (changeOf (netCircuit net) time false (at net lettersPlace) (held l₁ w₁ h₁ used) ob oa op) (nodeNumbers (netCircuit net))) (held l₁ w₁ h₁ used)) l₂ w₂ h₂ ix₂ stop₂ used₂ entries₂
           → Gathers time entries stop₂ used₂ entries₂ none x
-          → NextAs (held l w h (r .used)) (stepMoment (netCircuit net) (momentHeld l w h (runOf (netCircuit net) r))) l₂ w₂ h₂ ix₂ none x
+          → NextAs (held l w h (r .used)) (stepOrExceeded (netCircuit net) (momentHeld l w h (runOf (netCircuit net) r))) l₂ w₂ h₂ ix₂ none x
       step-next {l₂} {w₂} {h₂} {ix₂} {stop₂} {used₂} {entries₂} o₂ q =
           let u : Table = held l₁ w₁ h₁ used in
           let same : (n : ℕ) → Numbered d n → (p : ℕ) → p < patterns (d .letters) → changeOf d time false (d .letters) (held l₁ w₁ h₁ used) ob oa op n p ≡ changeAt (after d time v r p) n =

@@ -1,2 +1,3 @@
+pub mod Exceeded
 pub mod Next
 pub mod ByNode

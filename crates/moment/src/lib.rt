@@ -1,5 +1,6 @@
 // A start and a step over all patterns, in lent columns beside their index.
-// Promise: the run and the table afterwards are `startMoment` and `stepMoment` of the definitions; where they do not fit, that it stopped for want of room.
+// Promise: the run and the table afterwards are `startMoment` and `stepMoment` of the definitions, but for 0 in the place of a next change where
+// a walk exceeds the ceiling (specs/Exceeded.antt); where they do not fit, that it stopped for want of room.
 // Internal to our crates: a call refuses first, and shows what is required here.
 use changes::changes;
 use functions::numbers::NEVER;
@@ -14,12 +15,13 @@ ghost use mathlib.Core.Bool.{true};
 ghost use Prim.Native.Nat.{_≤_};
 ghost use Rattle.table.specs.Holds.{Lent};
 ghost use Rattle.functions.specs.Open.{Open};
-ghost use Rattle.rules.specs.Run.{startMoment, timeAfter, stepMoment, runSound};
+ghost use Rattle.rules.specs.Run.{timeAfter, runSound};
 ghost use Rattle.record.specs.Record.{runOf};
 ghost use Rattle.record.specs.Moments.{momentHeld};
 ghost use Rattle.record.specs.Leasts.{Leasts};
 ghost use Rattle.net.specs.Net.{lettersPlace, at as atPlace, netCircuit};
 ghost use Rattle.net.specs.Laid.{Laid};
+ghost use Rattle.moment.specs.Exceeded.{startOrExceeded, stepOrExceeded};
 ghost use Rattle.moment.specs.ByNode.{ByNode, Gathers};
 ghost use Rattle.moment.specs.Next.{NextAs};
 ghost use Rattle.diagram.specs.Held.{held};
@@ -46,8 +48,7 @@ fn by_number(ground: u32, supply: u32, entries: [u32; 24], count: usize) -> [u32
     out
 }
 
-// No run, for a reason. Where the table is full, a start or a step has ended before every node was looked at: a reason that ranks before 6
-// is to be looked for before this is answered, where the cell, the run and the table as they were, and T are at hand.
+// No run, for a reason. Where the table is full, a start or a step has ended before every node was looked at: what ranks before 6 is left to the caller.
 fn nothing(stop: Stop) -> Next
     ensures { λ x. ⌜ x .stop ≡ stop ⌝ }
 {
@@ -96,7 +97,7 @@ pub fn start(
     windex: &mut [u32],
 ) -> Next
     requires { ⌜ Laid (netCircuit (now net)) (now net) × Open (atPlace (now net) lettersPlace) (now letter) (now low) (now high) (now index) used × Lent (now wletter) (now wlow) (now whigh) (now windex) ⌝ }
-    ensures { λ x. ⌜ NextAs (held (now (letter .entry)) (now (low .entry)) (now (high .entry)) used) (startMoment (netCircuit (now (net .entry))) (held (now (letter .entry)) (now (low .entry)) (now (high .entry)) used)) (now (letter .exit)) (now (low .exit)) (now (high .exit)) (now (index .exit)) (x .stop) (x .run) ⌝ }
+    ensures { λ x. ⌜ NextAs (held (now (letter .entry)) (now (low .entry)) (now (high .entry)) used) (startOrExceeded (netCircuit (now (net .entry))) (held (now (letter .entry)) (now (low .entry)) (now (high .entry)) used)) (now (letter .exit)) (now (low .exit)) (now (high .exit)) (now (index .exit)) (x .stop) (x .run) ⌝ }
 {
     let v = sources(net, letter, low, high, index, used);
     let why = v.stop;
@@ -147,7 +148,7 @@ pub fn step(
 ) -> Next
     requires { ⌜ Laid (netCircuit (now net)) (now net) × Open (atPlace (now net) lettersPlace) (now letter) (now low) (now high) (now index) (r .used) × Lent (now wletter) (now wlow) (now whigh) (now windex) ⌝ }
     requires { ⌜ (runSound (netCircuit (now net)) (held (now letter) (now low) (now high) (r .used)) (runOf (netCircuit (now net)) r) ≡ true) × (time ≡ timeAfter (netCircuit (now net)) (momentHeld (now letter) (now low) (now high) (runOf (netCircuit (now net)) r))) × Leasts (atPlace (now net) lettersPlace) (held (now letter) (now low) (now high) (r .used)) (r .used) (now least) ⌝ }
-    ensures { λ x. ⌜ NextAs (held (now (letter .entry)) (now (low .entry)) (now (high .entry)) (r .used)) (stepMoment (netCircuit (now (net .entry))) (momentHeld (now (letter .entry)) (now (low .entry)) (now (high .entry)) (runOf (netCircuit (now (net .entry))) r))) (now (letter .exit)) (now (low .exit)) (now (high .exit)) (now (index .exit)) (x .stop) (x .run) ⌝ }
+    ensures { λ x. ⌜ NextAs (held (now (letter .entry)) (now (low .entry)) (now (high .entry)) (r .used)) (stepOrExceeded (netCircuit (now (net .entry))) (momentHeld (now (letter .entry)) (now (low .entry)) (now (high .entry)) (runOf (netCircuit (now (net .entry))) r))) (now (letter .exit)) (now (low .exit)) (now (high .exit)) (now (index .exit)) (x .stop) (x .run) ⌝ }
 {
     let v = arrive(net, letter, low, high, index, r, time, least);
     let why = v.stop;

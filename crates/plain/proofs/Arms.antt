@@ -7,14 +7,18 @@ use mathlib.Core.List.{List, [], _∷_, List·Memᴰ, List·Memᴰ·not-nil, Lis
 use Prim.Native.Nat.{ℕ, suc, _+_, _≤_, _<_}
 use native.Mathlib.Omega.{arith}
 use lib.ListN.{length, getD}
+use Rattle.units.specs.Rules.{ceiling}
+use Rattle.units.specs.Range.{AtMost}
+use Rattle.units.proofs.Laws.{at-most-weaken}
 use Rattle.format.specs.declared.Transistor.{Transistor}
 use Rattle.format.specs.Circuit.{noTransistor}
+use Rattle.format.specs.Legal.{mostNodes, mostResistance}
 use Rattle.rules.specs.Kept.{Channel}
 use Rattle.rules.specs.Sum.{leads, overArms}
-use Rattle.rules.proofs.Range.{Resistive}
+use Rattle.rules.proofs.Range.{Resistive, Weak, load-at-most}
 use Rattle.net.specs.Net.{nodesPlace, transistorsPlace, at, netTransistor, netCircuit, netArms}
 use Rattle.net.proofs.Laying.{transistors-length, transistor-at}
-use Rattle.plain.specs.Leaf.{keptBy, isKept, leafChannels, netChannel}
+use Rattle.plain.specs.Leaf.{keptBy, isKept, leafChannels, leafState, netChannel, leafLoad}
 use Rattle.plain.specs.Ready.{Net}
 use Rattle.plain.proofs.Fold.{foldArms, goesOn, over-fold}
 
@@ -45,6 +49,20 @@ module _ (net : List ℕ) (h : Net net) where
       (λ j l.
       let g : j < at net transistorsPlace = omega (arith, transistors-length net) in
       rw (transistor-at net j g) (h .within .transistor j g .least))
+
+  -- and none has more ohms than a transistor may have
+  pub leaf-weak : (leaf : List ℕ) → Weak mostResistance (leafChannels (netCircuit net) leaf)
+  leaf-weak leaf =
+      kept-all (λ (t : Transistor). t .resistance .0 ≤ mostResistance) (isKept leaf) 0 (netCircuit net .transistors)
+      (λ j l.
+      let g : j < at net transistorsPlace = omega (arith, transistors-length net) in
+      rw (transistor-at net j g) (h .within .transistor j g .most))
+
+  -- so a delay walk stays below the ceiling
+  pub leaf-load-most : (leaf : List ℕ) (a : ℕ) (sharing : Bool) (new : ℕ) (from : Option ℕ) (n : ℕ) → a ≤ mostNodes → AtMost ceiling (leafLoad net leaf a sharing new from n .resistance)
+  leaf-load-most leaf a sharing new from n few =
+      at-most-weaken (leafLoad net leaf a sharing new from n .resistance) (omega arith)
+      (load-at-most (netCircuit net) (leafState (netCircuit net) 0 leaf) (leafChannels (netCircuit net) leaf) mostResistance (leaf-weak leaf) sharing new a from n)
 
   module _ (n : ℕ) (l : n < 2 + at net nodesPlace) where
     -- over the kept channels that lead away, and over the listed numbers

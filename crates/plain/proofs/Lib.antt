@@ -5,7 +5,9 @@ pub mod Charge
 pub mod Same
 pub mod Turn
 pub mod Walks
-pub mod Next
+pub mod Passing
+pub mod Exceeding
+pub mod Changing
 pub mod Meet
 pub mod Values
 pub mod Pieces

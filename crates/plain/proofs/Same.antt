@@ -1,6 +1,6 @@
 -- What the walks and the next change read of a state: its values, and the considered node's next change.
-use mathlib.Core.Path.{_≡_, sym, _∙_, ap}
-use mathlib.Core.Bool.{Bool}
+use mathlib.Core.Path.{_≡_, sym, _∙_, ap, ap₂}
+use mathlib.Core.Bool.{Bool, cond}
 use mathlib.Core.Option.{Option, none}
 use mathlib.Core.List.{List}
 use Prim.Native.Nat.{ℕ}
@@ -11,8 +11,9 @@ use Rattle.rules.specs.State.{State, valueAt, changeAt}
 use Rattle.rules.specs.Kept.{Channel}
 use Rattle.rules.specs.Sum.{Sum, nodeSum, undriven}
 use Rattle.rules.specs.Delay.{Load, nodeLoad, inOhms}
-use Rattle.rules.specs.Step.{target, delayBy, delayTo, nextChange}
+use Rattle.rules.specs.Step.{target, exceeds, delayBy, delayTo, nextChange}
 use Rattle.rules.proofs.Walk.{sum-walk, load-walk}
+use Rattle.plain.specs.Exceeded.{changeOrExceeded}
 
 module _ (c : Circuit) (s t : State) (ks : List Channel) (e : s .values ≡ t .values) where
   -- states of the same values have the same node sums
@@ -48,3 +49,13 @@ module _ (c : Circuit) (s t : State) (ks : List Channel) (e : s .values ≡ t .v
   pub same-change : (time n : ℕ) → changeAt s n ≡ changeAt t n → nextChange c time s ks n ≡ nextChange c time t ks n
   unfolding nextChange
   same-change time n k = rw (same-target n, same-value n, k, same-delay (target c t ks n) n)
+
+  -- exceed the ceiling alike
+  pub same-exceeds : (n : ℕ) → exceeds c s ks n ≡ exceeds c t ks n
+  unfolding exceeds
+  same-exceeds n = ap (λ (v : Sum). v .exceeds) (same-sum (length (c .nodes)) none n)
+
+  -- and so have the same next change, or exceed both
+  pub same-or-exceeded : (time n : ℕ) → changeAt s n ≡ changeAt t n → changeOrExceeded c time s ks n ≡ changeOrExceeded c time t ks n
+  unfolding changeOrExceeded
+  same-or-exceeded time n k = ap₂ (λ (b : Bool) (v : ℕ). cond b 0 v) (same-exceeds n) (same-change time n k)

@@ -7,16 +7,16 @@ use native.Mathlib.Omega.{arith}
 use Rattle.format.specs.Circuit.{Circuit}
 use Rattle.rules.specs.State.{State, changeAt}
 use Rattle.rules.specs.Kept.{Channel, kept}
-use Rattle.rules.specs.Step.{nextChange}
 use Rattle.net.specs.Net.{netCircuit}
 use Rattle.net.proofs.Laying.{nodes-length}
+use Rattle.plain.specs.Exceeded.{changeOrExceeded}
 use Rattle.plain.specs.Leaf.{leafState, leafChange}
 use Rattle.plain.specs.Ready.{Noded, Ready}
 use Rattle.plain.specs.Shown.{Shows}
 use Rattle.plain.specs.Leaves.{KeptLeaf}
 use Rattle.plain.specs.Settle.{considers, changeBetween, Between}
 use Rattle.plain.proofs.Cell.{leaf-change}
-use Rattle.plain.proofs.Same.{same-change}
+use Rattle.plain.proofs.Same.{same-or-exceeded}
 use Rattle.plain.proofs.Ready.{leaf-shows, kept-ready}
 
 module _ {net old new : List ℕ} (b : Between net old new) where
@@ -28,11 +28,11 @@ module _ {net old new : List ℕ} (b : Between net old new) where
     abbrev c : Circuit
     c = netCircuit net
 
-    -- by its leaf a node has the next change that the rules give
-    leaf-next : {leaf : List ℕ} → KeptLeaf net new leaf → leafChange net leaf time pending n ≡ nextChange c time t (kept c t) n
+    -- by its leaf a node has the next change that the rules give, or exceeds as there
+    leaf-next : {leaf : List ℕ} → KeptLeaf net new leaf → leafChange net leaf time pending n ≡ changeOrExceeded c time t (kept c t) n
     leaf-next {leaf} l =
-        ap (λ (ks : List Channel). nextChange c time (leafState c pending leaf) ks n) (l .channels t shows)
-        ∙ same-change c (leafState c pending leaf) t (kept c t) (leaf-shows net new leaf (b .cell) (b .after) l ∙ sym shows) time n
+        ap (λ (ks : List Channel). changeOrExceeded c time (leafState c pending leaf) ks n) (l .channels t shows)
+        ∙ same-or-exceeded c (leafState c pending leaf) t (kept c t) (leaf-shows net new leaf (b .cell) (b .after) l ∙ sym shows) time n
         (leaf-change c leaf pending n (k .least) (omega (arith, nodes-length net, k .most)) ∙ sym waits)
 
     -- reconsidered or not

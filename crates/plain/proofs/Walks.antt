@@ -1,15 +1,16 @@
 -- Node sum and delay walk as loops over a node's listed arms.
-use mathlib.Core.Path.{_≡_, _∙_, ap}
-use mathlib.Core.Bool.{Bool, true, false, cond}
+use mathlib.Core.Path.{_≡_, refl, _∙_, ap}
+use mathlib.Core.Bool.{Bool, true, false, _||_, cond}
 use mathlib.Core.Option.{Option, some}
 use mathlib.Core.List.{List}
 use Prim.Native.Nat.{ℕ, suc, _+_, _-_, _^_, _≤_, _<_}
 use native.Mathlib.Omega.{arith}
 use lib.ListN.{length, getD}
 use lib.Dec.{eqb}
+use Rattle.lists.proofs.Cases.{or-right}
 use Rattle.units.specs.declared.Resistance.the-variants.{Infinite}
 use Rattle.units.specs.Range.{Positive}
-use Rattle.units.proofs.Laws.{parallel-positive, armSide-in-range}
+use Rattle.units.proofs.Laws.{parallel-positive, armSide-at-least}
 use Rattle.format.specs.Circuit.{nodeRecord}
 use Rattle.rules.specs.State.{valueAt, isDriven}
 use Rattle.rules.specs.Kept.{Channel}
@@ -41,6 +42,18 @@ sumArm net leaf a n i = armOf (netTransistor net i) (leafSum net leaf a (some i)
 
 abbrev pub armLoad : List ℕ → List ℕ → ℕ → Bool → ℕ → ℕ → ℕ → Load
 armLoad net leaf a sharing new n i = loadArm (netTransistor net i) (leafLoad net leaf a sharing new (some i) (farEnd n (netChannel net i)))
+
+-- a sum that exceeds the ceiling as a number
+abbrev over : Sum → ℕ
+over v = cond (v .exceeds) 1 0
+
+over-grows : (a b : Bool) → cond a 1 0 ≤ cond (a || b) 1 0
+over-grows true b = omega arith
+over-grows false b = omega arith
+
+over-true : (a : Bool) → 1 ≤ cond a 1 0 → a ≡ true
+over-true true h = refl
+over-true false h = absurd (omega arith)
 
 -- the two loops
 abbrev pub SumTurn : List ℕ → List ℕ → ℕ → ℕ → ℕ → ℕ → Sum → Type 0
@@ -84,10 +97,10 @@ module _ (net leaf : List ℕ) (h : Ready net leaf) where
   pub arm-sided : (a n i : ℕ) → i < at net transistorsPlace → Sided (sumArm net leaf a n i)
   arm-sided a n i g =
       let r = h .cell .within .transistor i g .least in
-      record { high = armSide-in-range _ _ _ r .positive; low = armSide-in-range _ _ _ r .positive }
+      record { high = armSide-at-least 1 _ _ _ r; low = armSide-at-least 1 _ _ _ r }
 
   pub arm-led : (a : ℕ) (sharing : Bool) (new n i : ℕ) → i < at net transistorsPlace → Led (armLoad net leaf a sharing new n i)
-  arm-led a sharing new n i g = armSide-in-range _ _ Infinite (h .cell .within .transistor i g .least) .positive
+  arm-led a sharing new n i g = armSide-at-least 1 _ _ Infinite (h .cell .within .transistor i g .least)
 
   module _ (allowance from n : ℕ) (some-left : 1 ≤ allowance) (l : n < 2 + at net nodesPlace) where
     one-less : allowance ≡ suc (allowance - 1)
@@ -135,6 +148,14 @@ module _ (net leaf : List ℕ) (h : Ready net leaf) where
             high-fits = omega arith;
             low-fits = omega arith;
           }
+
+      -- one that exceeds the ceiling makes the node's sum exceed it
+      pub sum-exceeds : (v : Sum) → SumTurn net leaf allowance from n k v → sumArm net leaf (allowance - 1) n i .exceeds ≡ true → leafSum net leaf allowance (fromOf from) n .exceeds ≡ true
+      sum-exceeds v t e =
+          let part : over (joinSums v (sumArm net leaf (allowance - 1) n i)) ≤ over (leafSum net leaf allowance (fromOf from) n) =
+          turn-part t g i at-k b test goes over (λ w j. over-grows (w .exceeds) (sumArm net leaf (allowance - 1) n j .exceeds)) in
+          over-true (leafSum net leaf allowance (fromOf from) n .exceeds)
+          (rw (or-right (v .exceeds) (sumArm net leaf (allowance - 1) n i .exceeds) e) at part)
 
       -- and then the loop is one arm further
       pub sum-turns : (v : Sum) → SumTurn net leaf allowance from n k v → SumTurn net leaf allowance from n (k + 1) (joinSums v (sumArm net leaf (allowance - 1) n i))

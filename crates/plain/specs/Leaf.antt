@@ -1,7 +1,8 @@
 -- The plain numbers of one pattern: 26 values of nodes, then for each transistor whether it is kept. And what the walks over them give.
 use Prim.Native.Nat.{ℕ, suc, _+_}
 use mathlib.Core.List.{List, [], _∷_}
-use mathlib.Core.Bool.{Bool, cond}
+use mathlib.Core.Path.{_≡_}
+use mathlib.Core.Bool.{Bool, true, false, cond}
 use mathlib.Core.Option.{Option, some, none}
 use lib.ListN.{length, getD, take, drop, replicate}
 use lib.Dec.{ltb, eqb}
@@ -12,11 +13,16 @@ use Rattle.rules.specs.State.{State}
 use Rattle.rules.specs.Kept.{Channel}
 use Rattle.rules.specs.Sum as rules
 use Rattle.rules.specs.Delay as rules-delay
-use Rattle.rules.specs.Step.{target, delayBy, nextChange}
+use Rattle.rules.specs.Step.{target, exceeds, delayBy, nextChange}
 use Rattle.net.specs.Net.{netTransistor, netCircuit}
 use Rattle.net.specs.Roots.{keptPlace}
 use Rattle.plain.specs.declared.Sum.{Sum}
+use Rattle.plain.specs.declared.Walked.{Walked}
+use Rattle.plain.specs.declared.Walked.the-variants.{Within, Exceeds}
 use Rattle.plain.specs.declared.Load.{Load}
+use Rattle.plain.specs.declared.Next.{Next}
+use Rattle.plain.specs.declared.Next.the-variants.{At, Exceeds as NoNext}
+use Rattle.plain.specs.Exceeded.{changeOrExceeded}
 
 -- the transistors with a flag, from transistor i on
 unfoldable pub keptBy : (ℕ → Bool) → ℕ → List Transistor → List Channel
@@ -60,12 +66,27 @@ leafTarget net leaf n = target (netCircuit net) (leafState (netCircuit net) 0 le
 abbrev pub leafDelay : List ℕ → List ℕ → Bool → ℕ → ℕ → ℕ
 leafDelay net leaf sharing new n = delayBy (netCircuit net) (leafState (netCircuit net) 0 leaf) (leafChannels (netCircuit net) leaf) sharing new n
 
+abbrev pub leafMove : List ℕ → List ℕ → ℕ → ℕ → ℕ → ℕ
+leafMove net leaf time pending n = nextChange (netCircuit net) time (leafState (netCircuit net) pending leaf) (leafChannels (netCircuit net) leaf) n
+
+-- whether its walk exceeds the ceiling; with that, its next change as an answer, and as a number
+abbrev pub leafExceeds : List ℕ → List ℕ → ℕ → Bool
+leafExceeds net leaf n = exceeds (netCircuit net) (leafState (netCircuit net) 0 leaf) (leafChannels (netCircuit net) leaf) n
+
+abbrev pub leafNext : List ℕ → List ℕ → ℕ → ℕ → ℕ → Next
+leafNext net leaf time pending n = cond (leafExceeds net leaf n) NoNext (At (leafMove net leaf time pending n))
+
 abbrev pub leafChange : List ℕ → List ℕ → ℕ → ℕ → ℕ → ℕ
-leafChange net leaf time pending n = nextChange (netCircuit net) time (leafState (netCircuit net) pending leaf) (leafChannels (netCircuit net) leaf) n
+leafChange net leaf time pending n = changeOrExceeded (netCircuit net) time (leafState (netCircuit net) pending leaf) (leafChannels (netCircuit net) leaf) n
 
 -- the code's structs as the definitions' records
 abbrev pub sumOf : Sum → rules.Sum
-sumOf s = record { high = s .high; low = s .low; highCharge = s .raised; lowCharge = s .lowered }
+sumOf s = record { high = s .high; low = s .low; highCharge = s .raised; lowCharge = s .lowered; exceeds = false }
+
+-- what a walk gives is the node's sum, or that the sum has exceeded the ceiling
+abbrev pub Gives : Walked → rules.Sum → Type 0
+Gives (Within s) v = sumOf s ≡ v
+Gives Exceeds v = v .exceeds ≡ true
 
 abbrev pub loadOf : Load → rules-delay.Load
 loadOf l = record { resistance = l .resistance; charge = l .charge }

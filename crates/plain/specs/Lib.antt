@@ -1,3 +1,4 @@
+pub mod Exceeded
 pub mod Leaf
 pub mod Ready
 pub mod Shown

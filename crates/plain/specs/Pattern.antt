@@ -1,7 +1,7 @@
 -- The state of one pattern on plain numbers, and the state of the rules that it shows.
 use Prim.Native.Nat.{ℕ, _+_, _-_, _≤_, _<_}
 use mathlib.Core.List.{List}
-use mathlib.Core.Bool.{cond}
+use mathlib.Core.Bool.{Bool, false, cond}
 use mathlib.Core.Path.{_≡_}
 use lib.ListN.{length, getD, take, drop}
 use lib.Dec.{eqb}
@@ -11,6 +11,8 @@ use Rattle.diagram.specs.Table.{never}
 use Rattle.rules.specs.State as rules
 use Rattle.rules.specs.Arrive.{scheduled}
 use Rattle.plain.specs.declared.State.{State}
+use Rattle.plain.specs.declared.Outcome.{Outcome}
+use Rattle.plain.specs.Exceeded.{exceeded}
 use Rattle.plain.specs.Shown.{Column}
 
 -- the numbers of the node records, in order, of a column by node number
@@ -29,11 +31,22 @@ pub record Bits (c : Circuit) (values : List ℕ) : Type 0 where
   pub column : Column values
   pub bits : (n : ℕ) → n < firstNodeNumber + length (c .nodes) → getD values n 0 ≤ 1
 
--- a state that a start or a step gives: the same, and the rails have no next change
+-- and none of its next changes says that a walk exceeds
+abbrev pub NoneExceeded : Circuit → List ℕ → Type 0
+NoneExceeded c changes = (n : ℕ) → firstNodeNumber ≤ n → n < firstNodeNumber + length (c .nodes) → exceeded < getD changes n 0
+
+-- a state that a start or a step gives: all of this, and the rails have no next change
 pub record Proper (c : Circuit) (s : State) : Type 0 where
   pub values : Bits c (s .values)
+  pub none-exceeded : NoneExceeded c (s .changes)
   pub ground : getD (s .changes) 0 0 ≡ never
   pub supply : getD (s .changes) 1 0 ≡ never
+
+-- what a start or a step gives: whether it exceeds the ceiling, and the state where it does not
+pub record Goes (c : Circuit) (over : Bool) (next : rules.State) (x : Outcome) : Type 0 where
+  pub exceeds : x .exceeds ≡ over
+  pub state : over ≡ false → shown c (x .state) ≡ next
+  pub proper : over ≡ false → Proper c (x .state)
 
 -- 26 numbers by node number: those of the rails, then f of each node record's number before `past`
 pub record Filled (low high : ℕ) (f : ℕ → ℕ) (past : ℕ) (column : List ℕ) : Type 0 where

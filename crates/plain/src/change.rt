@@ -1,5 +1,7 @@
 // Step rules 5 to 7: the new value of a node, and its next change.
+use crate::Next;
 use crate::Sum;
+use crate::Walked;
 use crate::loads::node_load;
 use crate::reads::NONE;
 use crate::reads::read;
@@ -20,7 +22,7 @@ ghost use Rattle.diagram.specs.Table.{never};
 ghost use Rattle.rules.specs.Sum.{infinite as infiniteOf, less as lessOf, decided as decidedOf, undriven as undrivenOf, newValue};
 ghost use Rattle.rules.specs.Delay.{inOhms};
 ghost use Rattle.net.specs.Net.{nodesPlace};
-ghost use Rattle.plain.specs.Leaf.{sumOf, leafSum, leafDelay, leafChange};
+ghost use Rattle.plain.specs.Leaf.{sumOf, leafSum, leafDelay, leafMove, leafNext, Gives};
 ghost use Rattle.plain.specs.Ready.{Noded, Ready};
 
 // No next change.
@@ -86,10 +88,10 @@ pub fn new_value(sum: Sum, present: u32) -> u32
 }
 
 // The sum of the node that a walk is for.
-fn sum_at(net: &[u32], leaf: &[u32], n: u32) -> Sum
+fn sum_at(net: &[u32], leaf: &[u32], n: u32) -> Walked
     requires { ⌜ Ready (now net) (now leaf) ⌝ }
     requires { ⌜ n < 2 + getD (now net) nodesPlace 0 ⌝ }
-    ensures { λ r. ⌜ sumOf r ≡ leafSum (now (net .entry)) (now (leaf .entry)) (getD (now (net .entry)) nodesPlace 0) none n ⌝ }
+    ensures { λ r. ⌜ Gives r (leafSum (now (net .entry)) (now (leaf .entry)) (getD (now (net .entry)) nodesPlace 0) none n) ⌝ }
 {
     let nodes = read(net, NODES);
     node_sum(net, leaf, nodes, NONE, n)
@@ -139,14 +141,13 @@ fn in_horizon(last: Picoseconds, pending: u32, at: Picoseconds) -> u32
     NEVER
 }
 
-// The next change of node n, considered at a time, with its pending one.
-pub fn next_change(net: &[u32], leaf: &[u32], time: u32, pending: u32, n: u32) -> u32
+// The next change of node n of this sum, considered at a time, with its pending one.
+fn change_to(net: &[u32], leaf: &[u32], sum: Sum, time: u32, pending: u32, n: u32) -> u32
     requires { ⌜ Ready (now net) (now leaf) ⌝ }
-    requires { ⌜ Noded (now net) n ⌝ }
-    ensures { λ r. ⌜ r ≡ leafChange (now (net .entry)) (now (leaf .entry)) time pending n ⌝ }
+    requires { ⌜ Noded (now net) n × (sumOf sum ≡ leafSum (now net) (now leaf) (getD (now net) nodesPlace 0) none n) ⌝ }
+    ensures { λ r. ⌜ r ≡ leafMove (now (net .entry)) (now (leaf .entry)) time pending n ⌝ }
 {
     let present = read(leaf, n as usize);
-    let sum = sum_at(net, leaf, n);
     let new = new_value(sum, present);
     if new == present {
         return NEVER;
@@ -155,4 +156,17 @@ pub fn next_change(net: &[u32], leaf: &[u32], time: u32, pending: u32, n: u32) -
     let last = horizon(net);
     let at = Picoseconds(time as u64).later(d);
     in_horizon(last, pending, at)
+}
+
+// The next change of node n, or that its walk exceeds the ceiling.
+pub fn next_change(net: &[u32], leaf: &[u32], time: u32, pending: u32, n: u32) -> Next
+    requires { ⌜ Ready (now net) (now leaf) ⌝ }
+    requires { ⌜ Noded (now net) n ⌝ }
+    ensures { λ r. ⌜ r ≡ leafNext (now (net .entry)) (now (leaf .entry)) time pending n ⌝ }
+{
+    let walked = sum_at(net, leaf, n);
+    match walked {
+        Walked::Exceeds => Next::Exceeds,
+        Walked::Within(sum) => Next::At(change_to(net, leaf, sum, time, pending, n)),
+    }
 }

@@ -1,6 +1,7 @@
 // One pattern on plain numbers (document 01): its state, start, step and next time, and their parts, rule by rule.
-// Promise: for the cell that `net` lays out, `start`, `step` and `next_time` are `started`, `stepped` and `patternTime` of crate rules, and each
-// part is its definition there, of every state that the columns show. Internal to our crates: the symbolic step calls the parts at its leaves.
+// Promise: for the cell that `net` lays out, `start`, `step` and `next_time` are `started`, `stepped` and `patternTime` of crate rules, with what
+// exceeds the ceiling, and each part is its definition there, of every state that the columns show. Internal to our crates: the symbolic step calls
+// the parts at its leaves, where a next change of 0 says that a walk exceeds the ceiling (specs/Exceeded.antt).
 pub mod arrive;
 pub mod change;
 pub mod keep;
@@ -24,6 +25,18 @@ pub struct Sum {
     pub lowered: Femtofarads,
 }
 
+// What the walk of a node sum gives: the sum, or that an arm on the way exceeds the ceiling.
+pub enum Walked {
+    Within(Sum),
+    Exceeds,
+}
+
+// The next change of a reconsidered node, or that its walk exceeds the ceiling.
+pub enum Next {
+    At(u32),
+    Exceeds,
+}
+
 // The resistance to a new value, and the charge that has to move.
 pub struct Load {
     pub resistance: Resistance,
@@ -41,4 +54,10 @@ pub struct Kept {
 pub struct State {
     pub values: [u32; 26],
     pub changes: [u32; 26],
+}
+
+// One pattern after its start or a step; where that exceeds the ceiling, the state is of no account.
+pub struct Outcome {
+    pub exceeds: bool,
+    pub state: State,
 }

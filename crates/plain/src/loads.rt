@@ -15,9 +15,12 @@ use units::delay_arm;
 use units::share;
 ghost use mathlib.Core.Path.{_≡_};
 ghost use mathlib.Core.Option.{some};
-ghost use Prim.Native.Nat.{_+_, _<_};
+ghost use Prim.Native.Nat.{_+_, _≤_, _<_};
 ghost use lib.ListN.{getD};
+ghost use Rattle.units.specs.Rules.{ceiling};
+ghost use Rattle.units.specs.Range.{AtMost};
 ghost use Rattle.format.specs.Circuit.{nodeRecord};
+ghost use Rattle.format.specs.Legal.{mostNodes};
 ghost use Rattle.rules.specs.Sum.{farEnd};
 ghost use Rattle.rules.specs.Delay.{drivenLoad, ownLoad, loadArm, joinLoads, isEnd};
 ghost use Rattle.net.specs.Net.{nodesPlace, transistorsPlace, netTransistor, netCircuit};
@@ -64,6 +67,7 @@ fn own_load(net: &[u32], leaf: &[u32], new: u32, n: u32) -> Load
 fn before_load(net: &[u32], i: u32, far: Load) -> Load
     requires { ⌜ Net (now net) ⌝ }
     requires { ⌜ i < getD (now net) transistorsPlace 0 ⌝ }
+    requires { ⌜ AtMost ceiling (far .resistance) ⌝ }
     ensures { λ r. ⌜ loadOf r ≡ loadArm (netTransistor (now (net .entry)) i) (loadOf far) ⌝ }
 {
     let r = resistance(net, i);
@@ -120,6 +124,7 @@ pub fn load_arm(
 ) -> Load
     requires { ⌜ Ready (now net) (now leaf) ⌝ }
     requires { ⌜ i < getD (now net) transistorsPlace 0 ⌝ }
+    requires { ⌜ allowance ≤ mostNodes ⌝ }
     ensures { λ r. ⌜ loadOf r ≡ loadArm (netTransistor (now (net .entry)) i) (leafLoad (now (net .entry)) (now (leaf .entry)) allowance sharing new (some i) (farEnd n (netChannel (now (net .entry)) i))) ⌝ }
 {
     let far = far_end(net, i, n);
@@ -139,6 +144,7 @@ pub fn node_load(
 ) -> Load
     requires { ⌜ Ready (now net) (now leaf) ⌝ }
     requires { ⌜ n < 2 + getD (now net) nodesPlace 0 ⌝ }
+    requires { ⌜ allowance ≤ mostNodes ⌝ }
     ensures { λ r. ⌜ loadOf r ≡ leafLoad (now (net .entry)) (now (leaf .entry)) allowance sharing new (fromOf from) n ⌝ }
 {
     if is_end(net, leaf, sharing, new, n) {

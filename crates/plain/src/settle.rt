@@ -1,4 +1,5 @@
 // Step rules 2 to 7 for one node: whether it is reconsidered, and its next change.
+use crate::Next;
 use crate::change::NEVER;
 use crate::change::next_change;
 use crate::keep::kept;
@@ -11,11 +12,25 @@ ghost use lib.ListN.{getD};
 ghost use Rattle.format.specs.Circuit.{firstNodeNumber};
 ghost use Rattle.rules.specs.State.{State, changeAt};
 ghost use Rattle.net.specs.Net.{nodesPlace, netCircuit};
+ghost use Rattle.plain.specs.Exceeded.{numberOf};
 ghost use Rattle.plain.specs.Leaf.{leafChange};
 ghost use Rattle.plain.specs.Ready.{Noded, Ready};
 ghost use Rattle.plain.specs.Shown.{Shows};
 ghost use Rattle.plain.specs.Leaves.{KeptLeaf, Parted};
 ghost use Rattle.plain.specs.Settle.{pendingAfter, considers, changeBetween, Between};
+
+// The number that stands for a walk that exceeds the ceiling: no next change is 0.
+pub const EXCEEDED: u32 = 0;
+
+// A next change, or that number.
+fn as_number(next: Next) -> u32
+    ensures { λ r. ⌜ r ≡ numberOf next ⌝ }
+{
+    match next {
+        Next::At(time) => time,
+        Next::Exceeds => EXCEEDED,
+    }
+}
 
 // The pending change once T has happened.
 pub fn pending_after(time: u32, pending: u32) -> u32
@@ -45,13 +60,13 @@ pub fn considered(
     touched(net, labels, before, after, n)
 }
 
-// The next change of node n, which is reconsidered, by its leaf.
+// The next change of node n, which is reconsidered, by its leaf, or that its walk exceeds.
 pub fn moved(net: &[u32], leaf: &[u32], time: u32, pending: u32, n: u32) -> u32
     requires { ⌜ Ready (now net) (now leaf) × Noded (now net) n ⌝ }
     ensures { λ r. ⌜ r ≡ leafChange (now (net .entry)) (now (leaf .entry)) time (pendingAfter time pending) n ⌝ }
 {
     let rest = pending_after(time, pending);
-    next_change(net, leaf, time, rest, n)
+    as_number(next_change(net, leaf, time, rest, n))
 }
 
 // The next change of node n by its leaf where it is reconsidered, else its pending one.

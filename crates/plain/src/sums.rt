@@ -1,5 +1,6 @@
-// Step rule 4: node sum and arm, which call each other along the kept transistors.
+// Step rule 4: node sum and arm, which call each other along the kept transistors, and pass up that an arm exceeds the ceiling.
 use crate::Sum;
+use crate::Walked;
 use crate::reads::arm_at;
 use crate::reads::degree_of;
 use crate::reads::far_end;
@@ -8,6 +9,7 @@ use crate::reads::is_driven;
 use crate::reads::read;
 use net::quantities::capacitance;
 use net::quantities::resistance;
+use units::Bounded;
 use units::Femtofarads;
 use units::Ohms;
 use units::Resistance;
@@ -19,7 +21,7 @@ ghost use lib.ListN.{getD};
 ghost use Rattle.format.specs.Circuit.{nodeRecord};
 ghost use Rattle.rules.specs.Sum.{farEnd, drivenSum, ownSum, armOf, joinSums};
 ghost use Rattle.net.specs.Net.{nodesPlace, transistorsPlace, netTransistor, netCircuit};
-ghost use Rattle.plain.specs.Leaf.{fromOf, netChannel, leafSum, sumOf};
+ghost use Rattle.plain.specs.Leaf.{fromOf, netChannel, leafSum, sumOf, Gives};
 ghost use Rattle.plain.specs.Ready.{Net, Noded, Ready, Divided, Joinable};
 
 // A driven end of this value.
@@ -67,11 +69,11 @@ fn own_sum(net: &[u32], leaf: &[u32], n: u32) -> Sum
 }
 
 // Transistor i before the far node's sum.
-fn before_sum(net: &[u32], i: u32, far: Sum) -> Sum
+fn before_sum(net: &[u32], i: u32, far: Sum) -> Walked
     requires { ⌜ Net (now net) ⌝ }
     requires { ⌜ i < getD (now net) transistorsPlace 0 ⌝ }
     requires { ⌜ Divided (sumOf far) ⌝ }
-    ensures { λ r. ⌜ sumOf r ≡ armOf (netTransistor (now (net .entry)) i) (sumOf far) ⌝ }
+    ensures { λ r. ⌜ Gives r (armOf (netTransistor (now (net .entry)) i) (sumOf far)) ⌝ }
 {
     let r = resistance(net, i);
     let high = far.high;
@@ -80,11 +82,17 @@ fn before_sum(net: &[u32], i: u32, far: Sum) -> Sum
     let lowered = far.lowered;
     let up = arm_side(r, high, low);
     let down = arm_side(r, low, high);
-    Sum {
-        high: up,
-        low: down,
-        raised: raised,
-        lowered: lowered,
+    match up {
+        Bounded::Exceeds => Walked::Exceeds,
+        Bounded::Within(high) => match down {
+            Bounded::Exceeds => Walked::Exceeds,
+            Bounded::Within(low) => Walked::Within(Sum {
+                high,
+                low,
+                raised,
+                lowered,
+            }),
+        },
     }
 }
 
@@ -113,28 +121,31 @@ fn join_sums(a: Sum, b: Sum) -> Sum
 }
 
 // The arm of transistor i at node n: the allowance is that of the far node.
-pub fn arm(net: &[u32], leaf: &[u32], allowance: u32, i: u32, n: u32) -> Sum
+pub fn arm(net: &[u32], leaf: &[u32], allowance: u32, i: u32, n: u32) -> Walked
     requires { ⌜ Ready (now net) (now leaf) ⌝ }
     requires { ⌜ i < getD (now net) transistorsPlace 0 ⌝ }
-    ensures { λ r. ⌜ sumOf r ≡ armOf (netTransistor (now (net .entry)) i) (leafSum (now (net .entry)) (now (leaf .entry)) allowance (some i) (farEnd n (netChannel (now (net .entry)) i))) ⌝ }
+    ensures { λ r. ⌜ Gives r (armOf (netTransistor (now (net .entry)) i) (leafSum (now (net .entry)) (now (leaf .entry)) allowance (some i) (farEnd n (netChannel (now (net .entry)) i)))) ⌝ }
 {
     let far = far_end(net, i, n);
-    let sum = node_sum(net, leaf, allowance, i, far);
-    before_sum(net, i, sum)
+    let behind = node_sum(net, leaf, allowance, i, far);
+    match behind {
+        Walked::Exceeds => Walked::Exceeds,
+        Walked::Within(sum) => before_sum(net, i, sum),
+    }
 }
 
 // The sum of node n, reached by transistor `from` (64: by none), with an allowance of nodes that are not yet passed.
-pub fn node_sum(net: &[u32], leaf: &[u32], allowance: u32, from: u32, n: u32) -> Sum
+pub fn node_sum(net: &[u32], leaf: &[u32], allowance: u32, from: u32, n: u32) -> Walked
     requires { ⌜ Ready (now net) (now leaf) ⌝ }
     requires { ⌜ n < 2 + getD (now net) nodesPlace 0 ⌝ }
-    ensures { λ r. ⌜ sumOf r ≡ leafSum (now (net .entry)) (now (leaf .entry)) allowance (fromOf from) n ⌝ }
+    ensures { λ r. ⌜ Gives r (leafSum (now (net .entry)) (now (leaf .entry)) allowance (fromOf from) n) ⌝ }
 {
     if is_driven(net, n) {
-        return driven_sum(read(leaf, n as usize));
+        return Walked::Within(driven_sum(read(leaf, n as usize)));
     }
     let mut sum = own_sum(net, leaf, n);
     if allowance == 0 {
-        return sum;
+        return Walked::Within(sum);
     }
     let degree = degree_of(net, n);
     let mut k: u32 = 0;
@@ -142,9 +153,14 @@ pub fn node_sum(net: &[u32], leaf: &[u32], allowance: u32, from: u32, n: u32) ->
         let i = arm_at(net, n, k);
         if is_arm(leaf, from, i) {
             let one = arm(net, leaf, allowance - 1, i, n);
-            sum = join_sums(sum, one);
+            match one {
+                Walked::Exceeds => return Walked::Exceeds,
+                Walked::Within(arm_sum) => {
+                    sum = join_sums(sum, arm_sum);
+                }
+            }
         }
         k += 1;
     }
-    sum
+    Walked::Within(sum)
 }

@@ -8,7 +8,7 @@ use native.Mathlib.Omega.{arith}
 use lib.ListN.{length, replicate, length-replicate}
 use lib.Dec.{leb, ltb, eqb}
 use Rattle.refusal.specs.declared.Refusal.{Refusal}
-use Rattle.refusal.specs.declared.Refusal.the-variants.{Buffer, Unsound, Finished, Full}
+use Rattle.refusal.specs.declared.Refusal.the-variants.{Buffer, Unsound, Finished, Ceiling, Full}
 use Rattle.refusal.specs.declared.Reply.{Reply}
 use Rattle.refusal.specs.declared.Reply.the-variants.{Refused}
 use Rattle.refusal.specs.Number.{refusalNumber}
@@ -20,7 +20,7 @@ use Rattle.cell.specs.Value.{cellBy}
 use Rattle.diagram.specs.Table.{never}
 use Rattle.diagram.specs.Call.{columns, Columns, lengthsLegal, columnsSound, tableOf}
 use Rattle.diagram.proofs.Columns.{columns-path}
-use Rattle.rules.specs.Run.{Moment, startMoment, timeAfter, stepMoment, fitting, continued, runMoment}
+use Rattle.rules.specs.Run.{Moment, startMoment, startWithin, timeAfter, stepMoment, stepWithin, fitting, continued, runMoment}
 use Rattle.rules.specs.Call.{leastWorking, workingLegal, momentGiven, soundTogether, startCall, stepCall, runCall}
 use Rattle.rules.proofs.Admitted.{admitting}
 use Rattle.table.specs.Holds.{Lent, zeroFrom}
@@ -76,7 +76,7 @@ fitting-other : (size : ℕ) (m : Moment) → Other (fitting size m)
 fitting-other size m = check-other (leb (length (m .table)) size) Full (answered m) refl (answered-other m)
 
 step-other : (c : Circuit) (size : ℕ) (m : Moment) → Other (admitting c size m)
-step-other c size m = fitting-other size (stepMoment c m)
+step-other c size m = check-other (stepWithin c m) Ceiling (fitting size (stepMoment c m)) refl (fitting-other size (stepMoment c m))
 
 cond-other : {A : Type 0} (t : Bool) (a b : Answer A) → Other a → Other b → Other (cond t a b)
 cond-other true a b p q = p
@@ -98,7 +98,7 @@ pub task-other : (c : Circuit) (task : Task) (table : Columns) (r : Run) (workin
     → Other (taskCall (answered c) task table r working)
 unfolding startCall stepCall runCall
 task-other c (Start used) table r working p q =
-    rw (p, q) (check-other (columnsSound (c .letters) table used) Unsound _ refl (fitting-other (length (table .letter)) (startMoment c (tableOf table used))))
+    rw (p, q) (check-other (columnsSound (c .letters) table used) Unsound _ refl (check-other (startWithin c) Ceiling _ refl (fitting-other (length (table .letter)) (startMoment c (tableOf table used)))))
 task-other c Step table r working p q =
     let m : Moment = momentGiven table (runIn (answered c) r) in
     rw (p, q)

@@ -5,7 +5,7 @@ use borrow.Author.Needs.{needs}
 use Rattle.refusal.specs.declared.Refusal.the-variants.{Unsound}
 use Rattle.diagram.specs.Call.{columns}
 use Rattle.functions.proofs.Carry.{judged-open}
-use Rattle.advance.proofs.Ends.{next-reached, went-refused, went-closed, start-unsound, start-next}
+use Rattle.advance.proofs.Ends.{went-refused, went-closed, start-unsound, start-next}
 use Rattle.advance.proofs.start_task.Statement.{statement}
 use Rattle.advance.proofs.start_task.Tie as tie
 
@@ -36,7 +36,9 @@ returns c =
     went-refused Unsound (start-unsound (s .args .net .now) (s .args .letter .now) (s .args .low .now) (s .args .high .now) (s .args .r) (columns (s .args .wletter .now) (s .args .wlow .now) (s .args .whigh .now)) (s .pre .0 .1) (s .pre .0 .2) (c .before .before .before .before .sound .ensures) (not-true _ (c .before .if1 .taken))) (c .refused .ensures)
 
 start-requires : tie.Need-start-requires
-start-requires c κs = (c .before .before .before .before .before .before .before .before .before .before .before .before .before .before .before .before .before .before .before .before .before .before .before .before .before .before .pre .0 .0, judged-open (c .before .before .before .before .before .before .before .before .before .before .before .sound .ensures) (not-false _ (c .before .before .before .before .before .before .before .before .if1 .left)) (c .before .before .before .before .before .before .before .before .before .before .before .before .before .before .before .before .before .before .before .before .before .before .before .before .before .before .pre .0 .0 .within .letters), c .before .before .before .before .before .before .before .before .before .before .before .before .before .before .before .before .before .before .before .before .before .before .before .before .before .before .pre .1 .2)
+start-requires c κs =
+    let s = c .before .before .before .before .before .before .before .before .before .before .before .before .before .before .before .before .before .before .before .before .before .before .before .before .before .before in
+    (s .pre .0 .0, judged-open (c .before .before .before .before .before .before .before .before .before .before .before .sound .ensures) (not-false _ (c .before .before .before .before .before .before .before .before .if1 .left)) (s .pre .0 .0 .within .letters), s .pre .1 .2)
 
 closed-requires : tie.Need-closed-requires
 closed-requires c κs = tt
@@ -68,7 +70,12 @@ same-length-12 c = c .before .before .before .before .before .before .before .be
 returns-2 : tie.Need-returns-2
 returns-2 c =
     let s = c .before .before .before .before .before .before .before .before .before .before .before .before .before .before .before .before .before .before .before .before .before .before .before .before .before .before .before .before .before .before .before .before .before .before .before .before .before .before .before .before .before .before .before .before .before .before .before .before .before .before .before .before .before in
-    went-closed (judged-open (c .before .before .before .before .before .before .before .before .before .before .before .before .before .before .before .before .before .before .before .before .before .before .before .before .before .before .before .before .before .before .before .before .before .before .before .before .before .before .sound .ensures) (not-false _ (c .before .before .before .before .before .before .before .before .before .before .before .before .before .before .before .before .before .before .before .before .before .before .before .before .before .before .before .before .before .before .before .before .before .before .before .if1 .left)) (s .pre .0 .0 .within .letters) .holds) (c .before .before .before .before .before .before .before .before .before .before .before .before .before .before .before .before .before .before .before .before .before .before .before .before .before .before .start .kept .1 .0) (start-next (s .args .net .now) (s .args .letter .now) (s .args .low .now) (s .args .high .now) (s .args .r) (columns (s .args .wletter .now) (s .args .wlow .now) (s .args .whigh .now)) (s .pre .0 .1) (s .pre .0 .2) (c .before .before .before .before .before .before .before .before .before .before .before .before .before .before .before .before .before .before .before .before .before .before .before .before .before .before .before .before .before .before .before .before .before .before .before .before .before .before .sound .ensures) (not-false _ (c .before .before .before .before .before .before .before .before .before .before .before .before .before .before .before .before .before .before .before .before .before .before .before .before .before .before .before .before .before .before .before .before .before .before .before .if1 .left))) (next-reached _ (c .before .before .before .before .before .before .before .before .before .before .before .before .before .before .before .before .before .before .before .before .before .before .before .before .before .before .start .kept .1 .0) (c .before .before .before .before .before .before .before .before .before .before .before .before .before .before .before .before .before .before .before .before .before .before .before .before .before .before .start .ensures)) (c .before .before .before .before .before .before .closed .ensures)
+    let j = c .before .before .before .before .before .before .before .before .before .before .before .before .before .before .before .before .before .before .before .before .before .before .before .before .before .before .before .before .before .before .before .before .before .before .before .before .before .before .sound .ensures in
+    let e = not-false _ (c .before .before .before .before .before .before .before .before .before .before .before .before .before .before .before .before .before .before .before .before .before .before .before .before .before .before .before .before .before .before .before .before .before .before .before .if1 .left) in
+    went-closed (judged-open j e (s .pre .0 .0 .within .letters) .holds) (c .before .before .before .before .before .before .before .before .before .before .before .before .before .before .before .before .before .before .before .before .before .before .before .before .before .before .start .kept .1 .0)
+    (start-next (s .args .net .now) (s .args .letter .now) (s .args .low .now) (s .args .high .now) (s .args .r) (columns (s .args .wletter .now) (s .args .wlow .now) (s .args .whigh .now)) (s .pre .0 .1) (s .pre .0 .2) j e)
+    (c .before .before .before .before .before .before .before .before .before .before .before .before .before .before .before .before .before .before .before .before .before .before .before .before .before .before .start .ensures)
+    (c .before .before .before .before .before .before .closed .ensures)
 
 pub start-task-spec : {M : Type 1} → statement M
 start-task-spec =

@@ -11,7 +11,7 @@ use Rattle.rules.specs.Delay.{Load, inOhms}
 use Rattle.rules.specs.Step.{delayBy}
 use Rattle.net.proofs.Laying.{nodes-length}
 use Rattle.plain.specs.Leaf.{leafLoad, leafDelay}
-use Rattle.plain.proofs.Next.{delay-small}
+use Rattle.plain.proofs.Changing.{delay-small}
 use Rattle.plain.proofs.change.delay_to.Statement.{statement}
 use Rattle.plain.proofs.change.delay_to.Tie as tie
 
@@ -19,7 +19,7 @@ read-requires : tie.Need-read-requires
 read-requires c κs = search needs
 
 node-load-requires : tie.Need-node-load-requires
-node-load-requires c κs = search needs
+node-load-requires c κs = let start = c .before .before .before in (start .pre .0, (start .pre .1, omega (arith, c .read .ensures, start .pre .0 .cell .within .nodes)))
 
 in-ohms-requires : tie.Need-in-ohms-requires
 in-ohms-requires c κs = search needs

@@ -1,89 +1,44 @@
--- `next_change` follows the definition's two cases; T + delay fits 64 bits because a delay fits 55.
-use mathlib.Core.Path.{_≡_, sym, _∙_, ap, ap₂}
-use mathlib.Core.Bool.{Bool, cond}
+-- `next_change` passes up that the walk exceeds, or gives the next change of the node's sum.
+use mathlib.Core.Path.{_≡_, sym, ap, subst}
 use mathlib.Core.Option.{none}
-use Prim.Native.Nat.{ℕ, _+_, min}
-use native.Mathlib.Omega.{arith}
-use lib.Dec.{leb}
 use borrow.Author.Needs.{needs}
-use Rattle.units.specs.declared.Picoseconds.{Picoseconds}
-use Rattle.rules.specs.Sum.{undriven, newValue}
-use Rattle.net.specs.Net.{nodesPlace, horizonPlace, at}
-use Rattle.net.proofs.Laying.{horizon-at}
-use Rattle.plain.specs.Leaf.{leafSum, leafTarget, leafDelay}
-use Rattle.plain.proofs.Next.{target-sum, next-keeps, next-moves}
+use Rattle.rules.specs.Sum as rules
+use Rattle.net.specs.Net.{nodesPlace, at}
+use Rattle.plain.specs.declared.Walked.{Walked}
+use Rattle.plain.specs.Leaf.{leafSum, sumOf, Gives}
+use Rattle.plain.proofs.Changing.{next-exceeds, next-at}
 use Rattle.plain.proofs.change.next_change.Statement.{statement}
 use Rattle.plain.proofs.change.next_change.Tie as tie
 
-read-requires : tie.Need-read-requires
-read-requires c κs = search needs
-
 sum-at-requires : tie.Need-sum-at-requires
-sum-at-requires c κs = search needs
+sum-at-requires c κs = let start = c .before .before in (start .pre .0, start .pre .1 .most)
 
-new-value-requires : tie.Need-new-value-requires
-new-value-requires c κs = search needs
+enum-told : tie.Need-enum-told
+enum-told c = search needs
 
--- what the node goes to
-goes : (c : tie.After-new-value) → let start = c .before .before .before .before .before in c .new-value .result ≡ leafTarget (start .args .net .now) (start .args .leaf .now) (start .args .n)
-goes c =
-    let start = c .before .before .before .before .before in
-    c .new-value .ensures
-    ∙ ap₂ newValue (c .before .sum-at .ensures) (c .before .before .read .ensures)
-    ∙ sym (target-sum (start .args .net .now) (start .args .leaf .now) (start .pre .0) (start .args .n) (start .pre .1 .most))
+enum-known-walked : tie.Need-enum-known-walked
+enum-known-walked c = search needs
+
+-- the sum of a walk that did not exceed
+is : (c : tie.After-known-told) → let start = c .before .before .before .before .before .before in sumOf (c .before .walked .given .0 .0) ≡ leafSum (start .args .net .now) (start .args .leaf .now) (at (start .args .net .now) nodesPlace) none (start .args .n)
+is c =
+    let start = c .before .before .before .before .before .before in
+    subst (λ (w : Walked). Gives w (leafSum (start .args .net .now) (start .args .leaf .now) (at (start .args .net .now) nodesPlace) none (start .args .n))) (c .before .walked .given .1) (c .before .before .before .sum-at .ensures)
+
+change-to-requires : tie.Need-change-to-requires
+change-to-requires c κs = let start = c .before .before .before .before .before .before in (start .pre .0, (start .pre .1, is c))
 
 returns : tie.Need-returns
 returns c =
-    let start = c .before .before .before .before .before .before in
-    sym (next-keeps (start .args .net .now) (start .args .leaf .now) (start .pre .0) (start .args .n) (start .pre .1) (start .args .time) (start .args .pending)
-    (sym (goes (c .before)) ∙ c .if1 .taken ∙ c .before .before .before .read .ensures))
-
-undriven-requires : tie.Need-undriven-requires
-undriven-requires c κs = search needs
-
-delay-to-requires : tie.Need-delay-to-requires
-delay-to-requires c κs = search needs
-
-horizon-requires : tie.Need-horizon-requires
-horizon-requires c κs = search needs
-
-later-requires : tie.Need-later-requires
-later-requires c κs = omega (arith, c .before .delay-to .ensures .1, c .before .before .before .before .before .before .before .before .before .fits .time)
-
-in-horizon-requires : tie.Need-in-horizon-requires
-in-horizon-requires c κs = omega (arith, c .before .horizon .ensures .1)
+    let start = c .before .before .before .before .before in
+    next-exceeds (start .args .net .now) (start .args .leaf .now) (start .pre .0) (start .args .n) (start .pre .1) (start .args .time) (start .args .pending)
+    (subst (λ (w : Walked). Gives w (leafSum (start .args .net .now) (start .args .leaf .now) (at (start .args .net .now) nodesPlace) none (start .args .n))) (c .enum-told .given .1) (c .before .before .sum-at .ensures))
 
 returns-2 : tie.Need-returns-2
 returns-2 c =
-    let start = c .before .before .before .before .before .before .before .before .before .before .before in
-    let net = start .args .net .now in
-    let leaf = start .args .leaf .now in
-    let n = start .args .n in
-    let first : ℕ → ℕ = λ (at : ℕ). min (start .args .pending) at in
-    let turned = c .before .before .before .before .before .before in
-    let to : turned .new-value .result ≡ leafTarget net leaf n = goes turned in
-    let sharing : Bool = undriven (leafSum net leaf (at net nodesPlace) none n) in
-    let delay : c .before .before .before .delay-to .result .0 ≡ leafDelay net leaf sharing (leafTarget net leaf n) n =
-    c .before .before .before .delay-to .ensures .0
-    ∙ ap₂ (λ (b : Bool) (new : ℕ). leafDelay net leaf b new n) (c .before .before .before .before .undriven .ensures ∙ ap undriven (turned .before .sum-at .ensures)) to in
-    let later : c .before .later .result .0 ≡ start .args .time + leafDelay net leaf sharing (leafTarget net leaf n) n = ap (λ (t : Picoseconds). t .0) (c .before .later .ensures) ∙ ap (λ (d : ℕ). start .args .time + d) delay in
-    let last : c .before .before .horizon .result .0 ≡ at net horizonPlace = ap (λ (t : Picoseconds). t .0) (c .before .before .horizon .ensures .0) ∙ horizon-at net in
-    c .in-horizon .ensures
-    ∙ ap₂ (λ (t horizon : ℕ). cond (leb (first t) horizon) (first t) 4294967295) later last
-    ∙ sym (next-moves net leaf (start .pre .0) n (start .pre .1) (start .args .time) (start .args .pending)
-    (λ e. c .before .before .before .before .before .if1 .left (to ∙ e ∙ sym (turned .before .before .read .ensures))))
+    let start = c .before .before .before .before .before .before .before in
+    next-at (start .args .net .now) (start .args .leaf .now) (start .pre .0) (start .args .n) (start .pre .1) (start .args .time) (start .args .pending)
+    (ap (λ (v : rules.Sum). v .exceeds) (sym (is (c .before)))) (c .change-to .ensures)
 
 pub next-change-spec : {M : Type 1} → statement M
-next-change-spec =
-    tie.close
-    (tie.spec
-    read-requires
-    sum-at-requires
-    new-value-requires
-    returns
-    undriven-requires
-    delay-to-requires
-    horizon-requires
-    later-requires
-    in-horizon-requires
-    returns-2)
+next-change-spec = tie.close (tie.spec sum-at-requires enum-told enum-known-walked change-to-requires returns returns-2)

@@ -8,14 +8,18 @@ use lib.ListN.{length}
 use borrow.Author.Needs.{needs}
 use borrow.Fn.Kinds.{In}
 use borrow.Fn.PlainCycle.{Measures, is, falls, and}
+use Rattle.units.specs.Rules.{ceiling}
+use Rattle.units.specs.Range.{AtMost}
 use Rattle.format.specs.Circuit.{nodeRecord}
 use Rattle.rules.specs.Delay.{drivenLoad, ownLoad, loadArm, joinLoads}
+use Rattle.rules.specs.Delay as rules
 use Rattle.rules.proofs.Walk.{load-end, load-own, not-end-inner}
 use Rattle.net.specs.Net.{netTransistor, netCircuit, netArms}
 use Rattle.plain.specs.declared.Load.{Load}
 use Rattle.plain.specs.Leaf.{leafChannels, leafState, fromOf, leafLoad, loadOf}
 use Rattle.plain.specs.Ready.{JoinableLoads}
 use Rattle.plain.proofs.Cell.{inner-least, from-some}
+use Rattle.plain.proofs.Arms.{leaf-load-most}
 use Rattle.plain.proofs.Turn.{turn-passes, turn-ends}
 use Rattle.plain.proofs.Walks.{LoadTurn, armLoad, value-here, far-in, load-starts, load-joins, load-turns}
 use Rattle.plain.proofs.loads.load_arm.Reads as load-arm
@@ -89,16 +93,19 @@ abbrev μ-loop : node-load-lts.MeasureT-loop
 
 module _ (t : ℕ) where
   load-arm-far-end-requires : load-arm-lts.Need-far-end-requires (load-arm-calls t) (load-arm-at t) load-arm.Post
-  load-arm-far-end-requires c κs = let start = c .before .before in (start .pre .1 .0 .cell, start .pre .1 .1)
+  load-arm-far-end-requires c κs = let start = c .before .before in (start .pre .1 .0 .cell, start .pre .1 .1 .0)
 
   load-arm-node-load-requires : load-arm-lts.Need-node-load-requires (load-arm-calls t) (load-arm-at t) load-arm.Post
   load-arm-node-load-requires c κs =
       let start = c .before .before .before in
-      let in-cell = far-in (start .args .net .now) (start .args .leaf .now) (start .pre .1 .0) (start .args .n) (start .args .i) (start .pre .1 .1) in
-      (omega (arith, start .pre .0), (start .pre .1 .0, omega (arith, c .far-end .ensures, in-cell)))
+      let in-cell = far-in (start .args .net .now) (start .args .leaf .now) (start .pre .1 .0) (start .args .n) (start .args .i) (start .pre .1 .1 .0) in
+      (omega (arith, start .pre .0), (start .pre .1 .0, (omega (arith, c .far-end .ensures, in-cell), start .pre .1 .1 .1)))
 
   load-arm-before-requires : load-arm-lts.Need-before-load-requires (load-arm-calls t) (load-arm-at t) load-arm.Post
-  load-arm-before-requires c κs = let start = c .before .before .before .before in (start .pre .1 .0 .cell, start .pre .1 .1)
+  load-arm-before-requires c κs =
+      let start = c .before .before .before .before in
+      let most = leaf-load-most (start .args .net .now) (start .pre .1 .0 .cell) (start .args .leaf .now) (start .args .allowance) (start .args .sharing) (start .args .new) (fromOf (start .args .i)) (c .before .far-end .result) (start .pre .1 .1 .1) in
+      (start .pre .1 .0 .cell, (start .pre .1 .1 .0, subst (λ (v : rules.Load). AtMost ceiling (v .resistance)) (sym (c .node-load .ensures)) most))
 
   load-arm-returns : load-arm-lts.Need-returns (load-arm-calls t) (load-arm-at t) load-arm.Post
   load-arm-returns c =
@@ -106,7 +113,7 @@ module _ (t : ℕ) where
       let net = start .args .net .now in
       let leaf = start .args .leaf .now in
       let i = start .args .i in
-      let small : i < 64 = omega (arith, start .pre .1 .0 .cell .within .transistors, start .pre .1 .1) in
+      let small : i < 64 = omega (arith, start .pre .1 .0 .cell .within .transistors, start .pre .1 .1 .0) in
       c .before-load .ensures
       ∙ ap (loadArm (netTransistor net i))
       (c .before .node-load .ensures
@@ -114,12 +121,12 @@ module _ (t : ℕ) where
       ∙ ap (leafLoad net leaf (start .args .allowance) (start .args .sharing) (start .args .new) (some i)) (c .before .before .far-end .ensures))
 
   node-load-is-end-requires : node-load-lts.Need-is-end-requires (node-load-calls t) (node-load-at t) node-load.Post Inv-loop μ-loop
-  node-load-is-end-requires c κs = let start = c .before .before in start .pre .1
+  node-load-is-end-requires c κs = let start = c .before .before in (start .pre .1 .0, start .pre .1 .1 .0)
 
   node-load-read-requires : node-load-lts.Need-read-requires (node-load-calls t) (node-load-at t) node-load.Post Inv-loop μ-loop
   node-load-read-requires c κs =
       let start = c .before .before .before .before in
-      omega (arith, start .pre .1 .0 .numbers .long, start .pre .1 .0 .cell .within .nodes, start .pre .1 .1)
+      omega (arith, start .pre .1 .0 .numbers .long, start .pre .1 .0 .cell .within .nodes, start .pre .1 .1 .0)
 
   node-load-driven-requires : node-load-lts.Need-driven-load-requires (node-load-calls t) (node-load-at t) node-load.Post Inv-loop μ-loop
   node-load-driven-requires c κs = search needs
@@ -132,13 +139,13 @@ module _ (t : ℕ) where
       let n = start .args .n in
       let driven = sym (c .before .before .before .is-end .ensures) ∙ c .before .before .if1 .taken in
       c .driven-load .ensures
-      ∙ ap (drivenLoad (start .args .new)) (c .before .read .ensures ∙ sym (value-here net leaf (start .pre .1 .0) n (start .pre .1 .1)))
+      ∙ ap (drivenLoad (start .args .new)) (c .before .read .ensures ∙ sym (value-here net leaf (start .pre .1 .0) n (start .pre .1 .1 .0)))
       ∙ sym (load-end (netCircuit net) (leafState (netCircuit net) 0 leaf) (leafChannels (netCircuit net) leaf) (start .args .sharing) (start .args .new) (start .args .allowance) (fromOf (start .args .from)) n driven)
 
   node-load-own-requires : node-load-lts.Need-own-load-requires (node-load-calls t) (node-load-at t) node-load.Post Inv-loop μ-loop
   node-load-own-requires c κs =
       let start = c .before .before .before .before in
-      (start .pre .1 .0, record { least = inner-least (start .args .net .now) (start .args .n) (not-end-inner (start .args .sharing) (start .args .new) (netCircuit (start .args .net .now)) (leafState (netCircuit (start .args .net .now)) 0 (start .args .leaf .now)) (start .args .n) (sym (c .before .is-end .ensures) ∙ c .if1 .left)); most = start .pre .1 .1 })
+      (start .pre .1 .0, record { least = inner-least (start .args .net .now) (start .args .n) (not-end-inner (start .args .sharing) (start .args .new) (netCircuit (start .args .net .now)) (leafState (netCircuit (start .args .net .now)) 0 (start .args .leaf .now)) (start .args .n) (sym (c .before .is-end .ensures) ∙ c .if1 .left)); most = start .pre .1 .1 .0 })
 
   node-load-returns-2 : node-load-lts.Need-returns-2 (node-load-calls t) (node-load-at t) node-load.Post Inv-loop μ-loop
   node-load-returns-2 c =
@@ -148,12 +155,12 @@ module _ (t : ℕ) where
       let n = start .args .n in
       let inner = sym (c .before .before .before .is-end .ensures) ∙ c .before .before .if1 .left in
       c .before .own-load .ensures
-      ∙ ap (ownLoad (start .args .new) (nodeRecord (netCircuit net) n .capacitance)) (sym (value-here net leaf (start .pre .1 .0) n (start .pre .1 .1)))
+      ∙ ap (ownLoad (start .args .new) (nodeRecord (netCircuit net) n .capacitance)) (sym (value-here net leaf (start .pre .1 .0) n (start .pre .1 .1 .0)))
       ∙ sym (load-own (netCircuit net) (leafState (netCircuit net) 0 leaf) (leafChannels (netCircuit net) leaf) (start .args .sharing) (start .args .new) (fromOf (start .args .from)) n inner)
       ∙ ap (λ (a : ℕ). leafLoad net leaf a (start .args .sharing) (start .args .new) (fromOf (start .args .from)) n) (sym (c .if2 .taken))
 
   node-load-degree-of-requires : node-load-lts.Need-degree-of-requires (node-load-calls t) (node-load-at t) node-load.Post Inv-loop μ-loop
-  node-load-degree-of-requires c κs = let start = c .before .before .before .before .before .before in (start .pre .1 .0 .cell, start .pre .1 .1)
+  node-load-degree-of-requires c κs = let start = c .before .before .before .before .before .before in (start .pre .1 .0 .cell, start .pre .1 .1 .0)
 
   node-load-loop-holds : node-load-lts.Need-loop-holds (node-load-calls t) (node-load-at t) node-load.Post Inv-loop μ-loop
   node-load-loop-holds c =
@@ -164,7 +171,7 @@ module _ (t : ℕ) where
       let some-left : 1 ≤ start .args .allowance = omega (arith, c .before .if2 .left) in
       subst (LoadTurn net leaf (start .args .allowance) (start .args .sharing) (start .args .new) (start .args .from) (start .args .n) 0)
       (sym (c .before .before .own-load .ensures))
-      (load-starts net leaf (start .pre .1 .0) (start .args .allowance) (start .args .from) (start .args .n) some-left (start .pre .1 .1) (start .args .sharing) (start .args .new) inner)
+      (load-starts net leaf (start .pre .1 .0) (start .args .allowance) (start .args .from) (start .args .n) some-left (start .pre .1 .1 .0) (start .args .sharing) (start .args .new) inner)
 
   -- in a turn there is an arm left
   node-load-left : (c : node-load-lts.In-loop (node-load-calls t) (node-load-at t) node-load.Post Inv-loop μ-loop) → c .before .loop .k < length (netArms (c .before .before .before .before .before .before .before .before .before .args .net .now) (c .before .before .before .before .before .before .before .before .before .args .n))
@@ -173,7 +180,7 @@ module _ (t : ℕ) where
   node-load-arm-at-requires : node-load-lts.Need-arm-at-requires (node-load-calls t) (node-load-at t) node-load.Post Inv-loop μ-loop
   node-load-arm-at-requires c κs =
       let start = c .before .before .before .before .before .before .before .before .before in
-      (start .pre .1 .0 .cell, (start .pre .1 .1, node-load-left c))
+      (start .pre .1 .0 .cell, (start .pre .1 .1 .0, node-load-left c))
 
   node-load-is-arm-requires : node-load-lts.Need-is-arm-requires (node-load-calls t) (node-load-at t) node-load.Post Inv-loop μ-loop
   node-load-is-arm-requires c κs =
@@ -186,7 +193,7 @@ module _ (t : ℕ) where
   node-load-load-arm-requires : node-load-lts.Need-load-arm-requires (node-load-calls t) (node-load-at t) node-load.Post Inv-loop μ-loop
   node-load-load-arm-requires c κs =
       let start = c .before .before .before .before .before .before .before .before .before .before .before .before in
-      (omega (arith, start .pre .0, c .before .before .before .before .before .before .if2 .left), (start .pre .1 .0, c .before .before .arm-at .ensures .1))
+      (omega (arith, start .pre .0, c .before .before .before .before .before .before .if2 .left), (start .pre .1 .0, (c .before .before .arm-at .ensures .1, omega (arith, start .pre .1 .1 .1))))
 
   -- at an arm that goes on: what comes of it may be joined, and then the loop is one further
   node-load-goes : (c : node-load-lts.Then3 (node-load-calls t) (node-load-at t) node-load.Post Inv-loop μ-loop)
@@ -198,10 +205,10 @@ module _ (t : ℕ) where
       let start = c .before .before .before .before .before .before .before .before .before .before .before .before in
       let loop = c .before .before .before .before .loop in
       let some-left : 1 ≤ start .args .allowance = omega (arith, c .before .before .before .before .before .before .if2 .left) in (
-        load-joins (start .args .net .now) (start .args .leaf .now) (start .pre .1 .0) (start .args .allowance) (start .args .from) (start .args .n) some-left (start .pre .1 .1)
+        load-joins (start .args .net .now) (start .args .leaf .now) (start .pre .1 .0) (start .args .allowance) (start .args .from) (start .args .n) some-left (start .pre .1 .1 .0)
             (loop .k) (c .before .before .arm-at .result) (c .before .is-arm .result) (node-load-left (c .before .before .before)) (c .before .before .arm-at .ensures .0) (c .before .before .arm-at .ensures .1)
             (c .before .is-arm .ensures) (c .if3 .taken) (start .args .sharing) (start .args .new) (loadOf (loop .load)) (loop .inv),
-        load-turns (start .args .net .now) (start .args .leaf .now) (start .pre .1 .0) (start .args .allowance) (start .args .from) (start .args .n) some-left (start .pre .1 .1)
+        load-turns (start .args .net .now) (start .args .leaf .now) (start .pre .1 .0) (start .args .allowance) (start .args .from) (start .args .n) some-left (start .pre .1 .1 .0)
             (loop .k) (c .before .before .arm-at .result) (c .before .is-arm .result) (node-load-left (c .before .before .before)) (c .before .before .arm-at .ensures .0) (c .before .before .arm-at .ensures .1)
             (c .before .is-arm .ensures) (c .if3 .taken) (start .args .sharing) (start .args .new) (loadOf (loop .load)) (loop .inv),
       )

@@ -12,13 +12,16 @@ resistance-requires : tie.Need-resistance-requires
 resistance-requires c κs = search needs
 
 delay-arm-requires : tie.Need-delay-arm-requires
-delay-arm-requires c κs = search needs
+delay-arm-requires c κs =
+    let start = c .before .before .before in
+    let e : c .before .resistance .result .0 ≡ netTransistor (start .args .net .now) (start .args .i) .resistance .0 = ap (λ (r : Ohms). r .0) (c .before .resistance .ensures) in
+    (omega (arith, e, start .pre .0 .within .transistor (start .args .i) (start .pre .1 .0) .most), start .pre .1 .1)
 
 share-requires : tie.Need-share-requires
 share-requires c κs =
     let start = c .before .before .before .before in
     let e : c .before .before .resistance .result .0 ≡ netTransistor (start .args .net .now) (start .args .i) .resistance .0 = ap (λ (r : Ohms). r .0) (c .before .before .resistance .ensures) in
-    omega (arith, e, start .pre .0 .within .transistor (start .args .i) (start .pre .1) .least)
+    omega (arith, e, start .pre .0 .within .transistor (start .args .i) (start .pre .1 .0) .least)
 
 returns : tie.Need-returns
 returns c =

@@ -1,5 +1,6 @@
 -- `arm` and `node_sum` call each other; the allowance falls. The loop's invariant: what it has, and what the arms not yet passed make of it, is the node's sum.
-use mathlib.Core.Path.{sym, _∙_, ap, subst}
+use mathlib.Core.Path.{_≡_, sym, _∙_, ap, subst}
+use mathlib.Core.Bool.{true}
 use mathlib.Core.Logic.{⊎-elim}
 use mathlib.Core.Option.{Option, some}
 use Prim.Native.Nat.{ℕ, _+_, _*_, _-_, _<_, _≤_}
@@ -9,15 +10,19 @@ use borrow.Author.Needs.{needs}
 use borrow.Fn.Kinds.{In}
 use borrow.Fn.PlainCycle.{Measures, is, falls, and}
 use Rattle.format.specs.Circuit.{nodeRecord}
-use Rattle.rules.specs.Sum.{drivenSum, ownSum, armOf, joinSums}
+use Rattle.rules.specs.Sum.{farEnd, drivenSum, ownSum, armOf, joinSums}
+use Rattle.rules.specs.Sum as rules
 use Rattle.rules.proofs.Walk.{sum-driven, sum-own}
 use Rattle.net.specs.Net.{netTransistor, netCircuit, netArms}
 use Rattle.plain.specs.declared.Sum.{Sum}
-use Rattle.plain.specs.Leaf.{leafChannels, leafState, fromOf, leafSum, sumOf}
+use Rattle.plain.specs.declared.Walked.{Walked}
+use Rattle.plain.specs.declared.Walked.the-variants.{Within}
+use Rattle.plain.specs.Leaf.{leafChannels, leafState, fromOf, netChannel, leafSum, sumOf, Gives}
 use Rattle.plain.specs.Ready.{Divided, Joinable}
 use Rattle.plain.proofs.Cell.{inner-least, from-some}
 use Rattle.plain.proofs.Turn.{turn-passes, turn-ends}
-use Rattle.plain.proofs.Walks.{SumTurn, sumArm, value-here, far-in, sum-divided, sum-starts, sum-joins, sum-turns}
+use Rattle.plain.proofs.Walks.{SumTurn, sumArm, value-here, far-in, sum-divided, sum-starts, sum-joins, sum-turns, sum-exceeds}
+use Rattle.plain.proofs.Passing.{behind-exceeds}
 use Rattle.plain.proofs.sums.arm.Reads as arm
 use Rattle.plain.proofs.sums.arm.Kinds as arm-kinds
 use Rattle.plain.proofs.sums.+arm+node_sum.Lts-arm as arm-lts
@@ -36,6 +41,10 @@ use Rattle.plain.proofs.sums.join_sums.Reads as join-reads
 use Rattle.plain.proofs.sums.own_sum.Reads as own-reads
 use Rattle.plain.proofs.sums.+arm+node_sum.{statement}
 use Rattle.plain.proofs.sums.+arm+node_sum.Tie.{close}
+
+-- an arm's sum, where it does not exceed
+arm-is : {w : Walked} {sum : Sum} {v : rules.Sum} → w ≡ Within sum → Gives w v → sumOf sum ≡ v
+arm-is {v = v} e g = subst (λ (w : Walked). Gives w v) e g
 
 abbrev μ-arm : Measures 2 arm-kinds.ps ℕ
 μ-arm κs args = 2 * args .1 .1 .0 + 1
@@ -97,23 +106,53 @@ module _ (t : ℕ) where
       let in-cell = far-in (start .args .net .now) (start .args .leaf .now) (start .pre .1 .0) (start .args .n) (start .args .i) (start .pre .1 .1) in
       (omega (arith, start .pre .0), (start .pre .1 .0, omega (arith, c .far-end .ensures, in-cell)))
 
+  arm-enum-told : arm-lts.Need-enum-told (arm-calls t) (arm-at t) arm.Post
+  arm-enum-told c = search needs
+
+  arm-enum-known : arm-lts.Need-enum-known-behind (arm-calls t) (arm-at t) arm.Post
+  arm-enum-known c = search needs
+
   arm-before-requires : arm-lts.Need-before-sum-requires (arm-calls t) (arm-at t) arm.Post
   arm-before-requires c κs =
-      let start = c .before .before .before .before in
-      (start .pre .1 .0 .cell, (start .pre .1 .1, subst Divided (sym (c .node-sum .ensures)) (sum-divided (start .args .net .now) (start .args .leaf .now) (start .pre .1 .0) (start .args .allowance) (fromOf (start .args .i)) (c .before .far-end .result))))
+      let start = c .before .before .before .before .before .before .before in
+      let net = start .args .net .now in
+      let leaf = start .args .leaf .now in
+      let far = c .before .before .before .before .far-end .result in
+      let is : sumOf (c .before .behind .given .0 .0) ≡ leafSum net leaf (start .args .allowance) (fromOf (start .args .i)) far =
+      subst (λ (w : Walked). Gives w (leafSum net leaf (start .args .allowance) (fromOf (start .args .i)) far)) (c .before .behind .given .1) (c .before .before .before .node-sum .ensures) in
+      (start .pre .1 .0 .cell, (start .pre .1 .1, subst Divided (sym is) (sum-divided net leaf (start .pre .1 .0) (start .args .allowance) (fromOf (start .args .i)) far)))
 
-  arm-returns : arm-lts.Need-returns (arm-calls t) (arm-at t) arm.Post
-  arm-returns c =
-      let start = c .before .before .before .before .before in
+  -- the sum behind an arm is that of its far end
+  arm-behind : (c : arm-lts.After-far-end (arm-calls t) (arm-at t) arm.Post)
+      → let start = c .before .before .before in
+      leafSum (start .args .net .now) (start .args .leaf .now) (start .args .allowance) (fromOf (start .args .i)) (c .far-end .result)
+      ≡ leafSum (start .args .net .now) (start .args .leaf .now) (start .args .allowance) (some (start .args .i)) (farEnd (start .args .n) (netChannel (start .args .net .now) (start .args .i)))
+  arm-behind c =
+      let start = c .before .before .before in
       let net = start .args .net .now in
       let leaf = start .args .leaf .now in
       let i = start .args .i in
       let small : i < 64 = omega (arith, start .pre .1 .0 .cell .within .transistors, start .pre .1 .1) in
-      c .before-sum .ensures
-      ∙ ap (armOf (netTransistor net i))
-      (c .before .node-sum .ensures
-      ∙ ap (λ (from : Option ℕ). leafSum net leaf (start .args .allowance) from (c .before .before .far-end .result)) (from-some i small)
-      ∙ ap (leafSum net leaf (start .args .allowance) (some i)) (c .before .before .far-end .ensures))
+      ap (λ (from : Option ℕ). leafSum net leaf (start .args .allowance) from (c .far-end .result)) (from-some i small)
+      ∙ ap (leafSum net leaf (start .args .allowance) (some i)) (c .far-end .ensures)
+
+  arm-returns : arm-lts.Need-returns (arm-calls t) (arm-at t) arm.Post
+  arm-returns c =
+      let start = c .before .before .before .before .before .before in
+      let far = c .before .before .before in
+      let v = leafSum (start .args .net .now) (start .args .leaf .now) (start .args .allowance) (fromOf (start .args .i)) (far .far-end .result) in
+      let e : v .exceeds ≡ true = subst (λ (w : Walked). Gives w v) (c .enum-told .given .1) (c .before .before .node-sum .ensures) in
+      behind-exceeds (netTransistor (start .args .net .now) (start .args .i))
+      (leafSum (start .args .net .now) (start .args .leaf .now) (start .args .allowance) (some (start .args .i)) (farEnd (start .args .n) (netChannel (start .args .net .now) (start .args .i))))
+      (subst (λ (w : rules.Sum). w .exceeds ≡ true) (arm-behind far) e)
+
+  arm-returns-2 : arm-lts.Need-returns-2 (arm-calls t) (arm-at t) arm.Post
+  arm-returns-2 c =
+      let start = c .before .before .before .before .before .before .before .before in
+      let far = c .before .before .before .before .before in
+      let v = leafSum (start .args .net .now) (start .args .leaf .now) (start .args .allowance) (fromOf (start .args .i)) (far .far-end .result) in
+      let is : sumOf (c .before .before .behind .given .0 .0) ≡ v = subst (λ (w : Walked). Gives w v) (c .before .before .behind .given .1) (c .before .before .before .before .node-sum .ensures) in
+      subst (λ (w : rules.Sum). Gives (c .before-sum .result) (armOf (netTransistor (start .args .net .now) (start .args .i)) w)) (is ∙ arm-behind far) (c .before-sum .ensures)
 
   node-sum-is-driven-requires : node-sum-lts.Need-is-driven-requires (node-sum-calls t) (node-sum-at t) node-sum.Post Inv-loop μ-loop
   node-sum-is-driven-requires c κs = let start = c .before .before in (start .pre .1 .0 .cell, start .pre .1 .1)
@@ -209,7 +248,28 @@ module _ (t : ℕ) where
       )
 
   node-sum-join-requires : node-sum-lts.Need-join-sums-requires (node-sum-calls t) (node-sum-at t) node-sum.Post Inv-loop μ-loop
-  node-sum-join-requires c κs = subst (Joinable (sumOf (c .before .before .before .before .before .loop .sum))) (sym (c .arm .ensures)) (node-sum-goes (c .before) .0)
+  node-sum-join-requires c κs =
+      subst (Joinable (sumOf (c .before .before .before .before .before .before .before .before .loop .sum)))
+      (sym (arm-is (c .before .one .given .1) (c .before .before .before .arm .ensures)))
+      (node-sum-goes (c .before .before .before .before) .0)
+
+  node-sum-enum-told : node-sum-lts.Need-enum-told (node-sum-calls t) (node-sum-at t) node-sum.Post Inv-loop μ-loop
+  node-sum-enum-told c = search needs
+
+  node-sum-enum-known : node-sum-lts.Need-enum-known-one (node-sum-calls t) (node-sum-at t) node-sum.Post Inv-loop μ-loop
+  node-sum-enum-known c = search needs
+
+  -- an arm that exceeds makes the node exceed
+  node-sum-returns-3 : node-sum-lts.Need-returns-3 (node-sum-calls t) (node-sum-at t) node-sum.Post Inv-loop μ-loop
+  node-sum-returns-3 c =
+      let goes = c .before .before .before in
+      let start = goes .before .before .before .before .before .before .before .before .before .before .before .before in
+      let loop = goes .before .before .before .before .loop in
+      let some-left : 1 ≤ start .args .allowance = omega (arith, goes .before .before .before .before .before .before .if2 .left) in
+      sum-exceeds (start .args .net .now) (start .args .leaf .now) (start .pre .1 .0) (start .args .allowance) (start .args .from) (start .args .n) some-left (start .pre .1 .1)
+      (loop .k) (goes .before .before .arm-at .result) (goes .before .is-arm .result) (node-sum-left (goes .before .before .before)) (goes .before .before .arm-at .ensures .0) (goes .before .before .arm-at .ensures .1)
+      (goes .before .is-arm .ensures) (goes .if3 .taken) (sumOf (loop .sum)) (loop .inv)
+      (subst (λ (w : Walked). Gives w (sumArm (start .args .net .now) (start .args .leaf .now) (start .args .allowance - 1) (start .args .n) (goes .before .before .arm-at .result))) (c .enum-told .given .1) (c .before .before .arm .ensures))
 
   node-sum-add-k : node-sum-lts.Need-add-k (node-sum-calls t) (node-sum-at t) node-sum.Post Inv-loop μ-loop
   node-sum-add-k c = omega (arith, c .before .before .before .loop-test .taken, c .before .before .before .before .before .degree-of .ok)
@@ -223,22 +283,22 @@ module _ (t : ℕ) where
       let loop = c .before .before .before .before .loop in
       let Goal : Sum → Type 0 = λ v. SumTurn (start .args .net .now) (start .args .leaf .now) (start .args .allowance) (start .args .from) (start .args .n) (loop .k + 1) (sumOf v) in
       ⊎-elim
-      (λ w. subst Goal (sym (w .3))
+      (λ w. subst Goal (sym (w .6))
       (subst (SumTurn (start .args .net .now) (start .args .leaf .now) (start .args .allowance) (start .args .from) (start .args .n) (loop .k + 1))
-      (sym (w .2 .ensures ∙ ap (joinSums (sumOf (loop .sum))) (w .1 .ensures)))
+      (sym (w .5 .ensures ∙ ap (joinSums (sumOf (loop .sum))) (arm-is (w .3 .given .1) (w .1 .ensures))))
       (node-sum-goes (record { before = c .before; if3 = w .0 }) .1)))
       (λ w. subst Goal (sym (w .1)) (turn-passes (loop .inv) (node-sum-left (c .before .before .before)) (c .before .before .arm-at .result) (c .before .before .arm-at .ensures .0) (c .before .is-arm .result) (c .before .is-arm .ensures) (w .0 .left)))
       (c .if3 .came)
 
-  node-sum-returns-3 : node-sum-lts.Need-returns-3 (node-sum-calls t) (node-sum-at t) node-sum.Post Inv-loop μ-loop
-  node-sum-returns-3 c = turn-ends (c .before .loop .inv) (omega (arith, c .loop-test .left, c .before .before .degree-of .ensures))
+  node-sum-returns-4 : node-sum-lts.Need-returns-4 (node-sum-calls t) (node-sum-at t) node-sum.Post Inv-loop μ-loop
+  node-sum-returns-4 c = turn-ends (c .before .loop .inv) (omega (arith, c .loop-test .left, c .before .before .degree-of .ensures))
 
 pub +arm+node-sum-spec : {M : Type 1} → statement M
 +arm+node-sum-spec =
     close
     μ-arm
     μ-node-sum
-    (λ t. arm-lts.spec (arm-calls t) (arm-at t) arm.Post (arm-far-end-requires t) (arm-node-sum-requires t) (arm-before-requires t) (arm-returns t))
+    (λ t. arm-lts.spec (arm-calls t) (arm-at t) arm.Post (arm-far-end-requires t) (arm-node-sum-requires t) (arm-enum-told t) (arm-enum-known t) (arm-before-requires t) (arm-returns t) (arm-returns-2 t))
     λ t. node-sum-lts.spec
     (node-sum-calls t)
     (node-sum-at t)
@@ -257,8 +317,11 @@ pub +arm+node-sum-spec : {M : Type 1} → statement M
     (node-sum-is-arm-requires t)
     (node-sum-sub-arm t)
     (node-sum-arm-requires t)
+    (node-sum-enum-told t)
+    (node-sum-returns-3 t)
+    (node-sum-enum-known t)
     (node-sum-join-requires t)
     (node-sum-add-k t)
     (node-sum-loop-less t)
     (node-sum-loop-again t)
-    (node-sum-returns-3 t)
+    (node-sum-returns-4 t)

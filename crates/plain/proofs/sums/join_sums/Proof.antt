@@ -1,4 +1,5 @@
 -- `join_sums` joins side by side.
+use mathlib.Core.Bool.{false}
 use borrow.Author.Needs.{needs}
 use Rattle.plain.proofs.sums.join_sums.Statement.{statement}
 use Rattle.plain.proofs.sums.join_sums.Tie as tie
@@ -19,7 +20,7 @@ returns : tie.Need-returns
 returns c =
     let rest = c .before .before .before in
     let sides = rest .before .before .before in
-    λ i. record { high = sides .before .parallel .ensures i; low = sides .parallel2 .ensures i; highCharge = rest .joined .ensures i; lowCharge = c .joined2 .ensures i }
+    λ i. record { high = sides .before .parallel .ensures i; low = sides .parallel2 .ensures i; highCharge = rest .joined .ensures i; lowCharge = c .joined2 .ensures i; exceeds = false }
 
 pub join-sums-spec : {M : Type 1} → statement M
 join-sums-spec =
