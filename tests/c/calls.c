@@ -1206,6 +1206,113 @@ static void check_full_runs(void)
     check_task_refused(&step, &r, STS_FULL, "with 13 entries the step to 250 is refused 6");
 }
 
+/*
+ * Supply, 42,268 ohm, and ground, 1 ohm, pull at node 3, and 23,657 ohm lie between it
+ * and node 4 while node 2 is high, which it becomes at 100 ps at pattern 1: one ohm above
+ * the ceiling.
+ */
+static const uint8_t fight[128] = {
+    3, 3, 1, 1, 0xe8, 3,  0, 0, 1,    0,    4, 0, 7, 0, 0, 0,
+    1, 0, 2, 0, 1,    0,  0, 0, 0,    0,    0, 0, 0, 0, 0, 0,
+    1, 0, 3, 0, 0,    0, 30, 0, 0,    0,    0, 0, 0, 0, 0, 0,
+    1, 0, 0, 0, 0,    0, 20, 0, 0,    0,    0, 0, 0, 0, 0, 0,
+    2, 0, 5, 0, 0,    1,  1, 3, 0x1c, 0xa5, 0, 0, 0, 0, 0, 0,
+    2, 0, 6, 0, 0,    1,  0, 3, 1,    0,    0, 0, 0, 0, 0, 0,
+    2, 0, 0, 0, 0,    2,  3, 4, 0x69, 0x5c, 0, 0, 0, 0, 0, 0,
+    3, 0, 0, 0, 2,    2,  0, 0, 100,  0,    0, 0, 0, 0, 0, 0,
+};
+
+/* Where the file has the source of node 2, and two of its resistances. */
+#define FIGHT_START (16 + 5)
+#define FIGHT_SUPPLY (64 + 8)
+#define FIGHT_WEAK (96 + 8)
+
+/* A call on a file of the fight's length, in a table of some length. */
+static struct task fight_task(int call, uint32_t number, const uint8_t *file, size_t length)
+{
+    struct task k = task_of(call, number, length);
+
+    k.file = file;
+    k.file_length = sizeof fight;
+    return k;
+}
+
+/* A run of such a file after its start. Nothing is added: no node has to change. */
+static void make_fight(struct run *r, const uint8_t *file, size_t length)
+{
+    const struct task start = fight_task(START, STS_FRESH_USED, file, length);
+
+    make_run(r, length);
+    check(do_task(&start, r) == STS_OK && r->record[STS_RUN_USED] == STS_FRESH_USED,
+          "sts_start starts a fight behind a transistor that is off");
+}
+
+/* The step to 100 ps is refused, also where the table has no room for its values. */
+static void check_ceiling_steps(size_t length)
+{
+    const struct task step = fight_task(STEP, 0, fight, length);
+    const struct task advance = fight_task(ADVANCE, 0, fight, length);
+    const struct task run = fight_task(RUN, 100, fight, length);
+    const struct task before = fight_task(RUN, 99, fight, length);
+    struct run r, first;
+
+    make_fight(&first, fight, length);
+    check_task_refused(&step, &first, STS_CEILING, "sts_step refuses the ceiling with 11");
+    check_task_refused(&advance, &first, STS_CEILING, "sts_advance refuses the ceiling with 11");
+    check_task_refused(&run, &first, STS_CEILING, "sts_run refuses the ceiling with 11");
+    r = first;
+    check(do_task(&before, &r) == STS_OK && r.record[STS_RUN_TIME] == 0,
+          "sts_run up to the step before is answered");
+    first.record[STS_RUN_USED] = 2;
+    check_task_refused(&step, &first, STS_UNSOUND, "7 comes before 11");
+}
+
+/* A start is refused where the fight is there from the beginning. */
+static void check_ceiling_starts(size_t length)
+{
+    struct task start;
+    struct run r;
+    uint8_t file[sizeof fight];
+
+    memcpy(file, fight, sizeof file);
+    file[FIGHT_START] = 1;
+    start = fight_task(START, STS_FRESH_USED, file, length);
+    make_run(&r, length);
+    check_task_refused(&start, &r, STS_CEILING, "sts_start refuses the ceiling with 11");
+    /* With 52,578 and 19,018 ohm it is exactly the ceiling. */
+    file[FIGHT_SUPPLY] = 0x62;
+    file[FIGHT_SUPPLY + 1] = 0xcd;
+    file[FIGHT_WEAK] = file[FIGHT_WEAK + 1] = 0x4a;
+    check(do_task(&start, &r) == STS_OK, "exactly the ceiling is answered");
+}
+
+/* Resistances end at 240,000 ohm. */
+static void check_most_resistance(void)
+{
+    uint32_t most = STS_MOST_RESISTANCE;
+    uint8_t file[sizeof fight];
+
+    memcpy(file, fight, sizeof file);
+    check(read_into(file, sizeof file, STS_HEADER_LENGTH) == STS_OK, "sts_read reads a fight");
+    file[FIGHT_WEAK] = most & 0xff;
+    file[FIGHT_WEAK + 1] = most >> 8 & 0xff;
+    file[FIGHT_WEAK + 2] = most >> 16 & 0xff;
+    check(read_into(file, sizeof file, STS_HEADER_LENGTH) == STS_OK,
+          "sts_read reads the largest resistance");
+    file[FIGHT_WEAK]++;
+    check(read_into(file, sizeof file, STS_HEADER_LENGTH) == STS_RECORD,
+          "sts_read refuses one ohm more with 4");
+}
+
+static void check_ceiling(void)
+{
+    check_most_resistance();
+    check_ceiling_steps(STS_LEAST_TABLE);
+    check_ceiling_steps(ROOM);
+    check_ceiling_starts(STS_LEAST_TABLE);
+    check_ceiling_starts(ROOM);
+}
+
 /* An earlier record is good again with the present used count, and with no other. */
 static void check_earlier(void)
 {
@@ -1439,6 +1546,7 @@ int main(void)
     check_in_place();
     check_runs();
     check_full_runs();
+    check_ceiling();
     check_earlier();
     check_task_refusals();
     check_questions();

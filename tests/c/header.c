@@ -21,6 +21,8 @@ HOLDS(the_changes_end_the_record, STS_RUN_CHANGES + STS_MOST_NODES == STS_RECORD
 HOLDS(the_longest_file_has_153_times_16_bytes, STS_MOST_BYTES == 153 * 16);
 HOLDS(small_cells_have_one_or_two_of_96_transistors, STS_SMALL_CELLS == 96 + 96 * 96);
 HOLDS(the_longest_small_file_has_80_bytes, STS_SMALL_BYTES == 80);
+HOLDS(the_ceiling_is_refused_with_11, STS_CEILING == 11);
+HOLDS(the_weakest_transistor_has_240000_ohm, STS_MOST_RESISTANCE == 240000);
 
 void convert(uint32_t column[STS_RECORD_LENGTH]);
 

@@ -21,7 +21,7 @@ pub const HORIZONS: RangeInclusive<u32> = 1..=1_000_000;
 /// The capacitances of an inner node, in fF.
 pub const CAPACITANCES: RangeInclusive<u32> = 1..=65_535;
 /// The resistances of a transistor, in ohm.
-pub const RESISTANCES: RangeInclusive<u32> = 1..=1_000_000;
+pub const RESISTANCES: RangeInclusive<u32> = 1..=240_000;
 
 /// The number of the first node record: 0 is ground, 1 is supply.
 pub const FIRST_NODE: usize = 2;

@@ -1,6 +1,6 @@
 //! Cells as they are drawn for a library, with letters on their inputs.
 
-use crate::cell_file::{Cell, Channel, Source, RESISTANCES};
+use crate::cell_file::{Cell, Channel, Source};
 use crate::draft::{Draft, GROUND, SUPPLY};
 use crate::random::Random;
 
@@ -143,22 +143,6 @@ pub fn barrel_column(letters: u32, skew: u32) -> Cell {
     draft.finish()
 }
 
-/// A node that is low and pulled both ways: down through a node whose other side
-/// is at the ceiling of resistances, and up through 1,000,000 and `more` ohm. With
-/// 2,004 ohm more the two are equal; they would not be with a lower ceiling.
-pub fn at_the_ceiling(more: u32) -> Cell {
-    let most = *RESISTANCES.end();
-    let mut draft = Draft::new(0, 1_000_000);
-    let [far, near, middle, node] = [(); 4].map(|()| draft.inner(1, Source::Low));
-    draft.n(SUPPLY, [SUPPLY, far], most);
-    draft.n(SUPPLY, [GROUND, far], 1);
-    draft.n(SUPPLY, [far, near], most - 2);
-    draft.n(SUPPLY, [near, node], 1_000);
-    draft.n(SUPPLY, [SUPPLY, middle], most);
-    draft.n(SUPPLY, [middle, node], more);
-    draft.finish()
-}
-
 /// A random cell of 24 nodes and 64 transistors, most of them between inner nodes:
 /// so many inputs, and letters on all of them and on the wires they start from.
 pub fn dense(seed: u64, inputs: u32, letters: u32) -> Cell {
@@ -192,7 +176,7 @@ pub fn dense(seed: u64, inputs: u32, letters: u32) -> Cell {
         };
         if one != other {
             let channel = random.pick(&[Channel::N, Channel::P]);
-            let resistance = random.between(500, 5_000).min(*RESISTANCES.end());
+            let resistance = random.between(500, 5_000);
             draft.channel(channel, gate, [one, other], resistance);
         }
     }

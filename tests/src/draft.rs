@@ -27,6 +27,11 @@ impl Draft {
         }
     }
 
+    /// More is drawn into a cell that is there.
+    pub fn of(cell: Cell) -> Draft {
+        Draft { cell }
+    }
+
     /// There is room for so many more nodes and transistors.
     pub fn has_room(&self, nodes: usize, transistors: usize) -> bool {
         self.cell.nodes.len() + nodes <= *NODES.end() as usize

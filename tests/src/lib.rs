@@ -8,6 +8,7 @@ pub mod buffer;
 pub mod cell_file;
 pub mod designs;
 pub mod draft;
+pub mod fights;
 pub mod functions;
 pub mod generate;
 pub mod listing;

@@ -3,6 +3,7 @@
 
 use crate::cell_file::{parse, Cell};
 use crate::program::{bytes, in_repository};
+use crate::refusal::Refusal;
 use crate::simulator::circuit::Circuit;
 use crate::simulator::pattern::State;
 use crate::simulator::run::Run;
@@ -45,14 +46,17 @@ impl Sample {
 }
 
 /// Runs a cell to its end with another tool's step of a pattern to a time; gives also the
-/// listing after the start.
-pub fn run(circuit: &Circuit, step: impl Fn(&mut State, usize, u32)) -> (Run, Vec<String>) {
-    let mut run = Run::start(circuit);
+/// listing after the start. No sample that is run so comes near the ceiling.
+pub fn run(
+    circuit: &Circuit,
+    step: impl Fn(&mut State, usize, u32) -> Result<(), Refusal>,
+) -> (Run, Vec<String>) {
+    let mut run = Run::start(circuit).expect("a start");
     let (mut lines, mut steps) = (Vec::new(), 0);
     while let Some(time) = run.next_time(circuit) {
         let before = run.clone();
         for (pattern, state) in run.states.iter_mut().enumerate() {
-            step(state, pattern, time);
+            step(state, pattern, time).expect("a step");
         }
         run.now = time;
         steps += 1;

@@ -26,10 +26,12 @@ pub enum Refusal {
     Question = 9,
     /// Nothing pends and nothing is scheduled.
     Finished = 10,
+    /// A resistance would be above the ceiling.
+    Ceiling = 11,
 }
 
 /// How many answers there are: 0 for an answered call, and the refusals.
-pub const ANSWERS: usize = 11;
+pub const ANSWERS: usize = 12;
 
 impl Refusal {
     /// The number that the tool gives.

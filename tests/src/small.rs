@@ -128,13 +128,15 @@ pub struct Moment {
     pub patterns: [[[u32; 2]; 2]; 2],
 }
 
-/// All moments of the run of a cell, up to its end.
+/// All moments of the run of a small cell, up to its end: with transistors of 1 ohm no
+/// arm comes near the ceiling.
 pub fn run(cell: &Cell) -> Vec<Moment> {
+    const BELOW: &str = "no arm of 1 ohm is above the ceiling";
     let circuit = Circuit::new(cell);
-    let mut run = Run::start(&circuit);
+    let mut run = Run::start(&circuit).expect(BELOW);
     let mut moments = vec![moment(&run)];
     while let Some(time) = run.next_time(&circuit) {
-        run.step(&circuit, time);
+        run.step(&circuit, time).expect(BELOW);
         moments.push(moment(&run));
     }
     moments

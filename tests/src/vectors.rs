@@ -27,7 +27,9 @@ impl Vector {
 }
 
 /// The cells that tell doubtful readings apart. Their listings were given with
-/// them and stand in `tests/vectors`.
+/// them and stand in `tests/vectors`. Those named `-in-range` are given ones whose
+/// resistances were above the limit and are brought down to it; their listings are
+/// those of the second implementation.
 pub fn given() -> Vec<Vector> {
     let vector = |listing: PathBuf| {
         let cell = listing.with_extension("cell");

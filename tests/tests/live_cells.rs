@@ -5,7 +5,7 @@ use comparison::cell_file::Cell;
 use comparison::functions::NEVER;
 use comparison::generate::live::{self, Size};
 use comparison::random::Random;
-use comparison::simulator::arithmetic::{Ohms, CEILING};
+use comparison::simulator::arithmetic::Ohms;
 use comparison::simulator::circuit::Circuit;
 use comparison::simulator::pattern::{next_change, State};
 use comparison::simulator::reach::Reach;
@@ -80,10 +80,21 @@ impl Moment<'_> {
     }
 }
 
-/// Starts one pattern of a cell and takes some steps; says whether it then is finished.
-fn run(cell: &Cell, pattern: usize, mut look: impl FnMut(&Moment)) -> bool {
+/// How the run of one pattern ended: finished, refused for the ceiling at its start or a
+/// step, or given up.
+#[derive(Clone, Copy, Debug, PartialEq, Eq)]
+enum End {
+    Finished,
+    Refused { start: bool },
+    GivenUp,
+}
+
+/// Starts one pattern of a cell and takes some steps.
+fn run(cell: &Cell, pattern: usize, mut look: impl FnMut(&Moment)) -> End {
     let circuit = &Circuit::new(cell);
-    let mut state = State::start(circuit, pattern);
+    let Ok(mut state) = State::start(circuit, pattern) else {
+        return End::Refused { start: true };
+    };
     let mut now = 0;
     let mut look = |before: &State, after: &State, time| {
         look(&Moment {
@@ -98,14 +109,16 @@ fn run(cell: &Cell, pattern: usize, mut look: impl FnMut(&Moment)) -> bool {
         let scheduled = cell.schedule.iter().map(|entry| entry.time);
         let times = state.next.iter().copied().chain(scheduled);
         let Some(time) = times.filter(|&time| time > now && time != NEVER).min() else {
-            return true;
+            return End::Finished;
         };
         let before = state.clone();
-        state.step(circuit, pattern, time);
+        if state.step(circuit, pattern, time).is_err() {
+            return End::Refused { start: false };
+        }
         look(&before, &state, time);
         now = time;
     }
-    false
+    End::GivenUp
 }
 
 /// Counts what happens in a start or step.
@@ -156,26 +169,33 @@ fn look_at_reach(seen: &mut Seen, moment: &Moment) {
     }
 }
 
+/// No node of a run is above the ceiling, also where it is not reconsidered.
+const IN_A_RUN: &str = "no arm above the ceiling";
+
 /// A node that is not reconsidered; linked, if channels that may not conduct lead from
 /// it to an end of a disturbed transistor.
 fn look_past(seen: &mut Seen, walk: &Walk, moment: &Moment, node: usize, linked: bool) {
     let present = moment.after.values[node];
     let next = moment.after.next[node];
     let pends = next != NEVER;
-    let unstable = walk.sum(node, None).value(present) != present;
+    let sum = walk.sum(node, None).expect(IN_A_RUN);
+    let unstable = sum.value(present) != present;
     seen.count("kept next change", pends);
     seen.count("not reconsidered though unstable", !pends && unstable);
     let flipped = moment.flipped(node);
     seen.count("flips and is not reconsidered", flipped);
     seen.count("cut off", linked);
     seen.count("cut off with a next change", linked && pends);
-    let anew = next_change(walk, node, next, moment.time);
+    let anew = next_change(walk, node, next, moment.time).expect(IN_A_RUN);
     seen.count("cut off and would be changed", linked && anew != next);
 }
 
+/// A resistance that is not far below the ceiling.
+const NEARLY: u64 = 900_000_000;
+
 /// A node that is considered.
 fn look_at(seen: &mut Seen, walk: &Walk, moment: &Moment, node: usize) {
-    let sum = walk.sum(node, None);
+    let sum = walk.sum(node, None).expect(IN_A_RUN);
     let present = moment.after.values[node];
     let driven = sum.is_driven();
     seen.count("drive is equal", driven && sum.high == sum.low);
@@ -183,8 +203,9 @@ fn look_at(seen: &mut Seen, walk: &Walk, moment: &Moment, node: usize) {
     seen.count("charge decides", !driven && charged);
     let equal = sum.charge_high == sum.charge_low;
     seen.count("charge is equal", !driven && equal);
-    let capped = [sum.high, sum.low].contains(&Ohms::Finite(CEILING));
-    seen.count("at the ceiling", capped);
+    let above = |ohms: Ohms| matches!(ohms, Ohms::Finite(ohms) if ohms > NEARLY);
+    let near = above(sum.high) || above(sum.low);
+    seen.count("not far below the ceiling", near);
     let both = sum.high != Ohms::Infinite && sum.low != Ohms::Infinite;
     seen.count("both sides finite", both);
     let new = sum.value(present);
@@ -211,7 +232,7 @@ fn look_at(seen: &mut Seen, walk: &Walk, moment: &Moment, node: usize) {
 
 /// The delay of a node that is to take a new value.
 fn look_at_delay(seen: &mut Seen, walk: &Walk, node: usize, new: bool) -> u64 {
-    let ends = Ends::of(walk.sum(node, None));
+    let ends = Ends::of(walk.sum(node, None).expect(IN_A_RUN));
     let load = walk.load(node, None, new, ends);
     let by_charge = ends == Ends::Holders;
     seen.count(
@@ -242,8 +263,11 @@ fn cells() -> impl Iterator<Item = (Cell, usize)> {
 fn every_rule_acts() {
     let mut seen = Seen::default();
     for (cell, pattern) in cells() {
-        let finished = run(&cell, pattern, |moment| look(&mut seen, moment));
-        seen.count("finished", finished);
+        let end = run(&cell, pattern, |moment| look(&mut seen, moment));
+        seen.count("finished", end == End::Finished);
+        let [start, step] = [true, false].map(|start| end == End::Refused { start });
+        seen.count("start above the ceiling", start);
+        seen.count("step above the ceiling", step);
         seen.count("dense cell", cell.nodes.len() > 16);
         seen.count("most transistors", cell.transistors.len() == 64);
     }
@@ -288,7 +312,8 @@ fn misreadings_show() {
         run(&cell, pattern, |moment| {
             for (what, nodes) in misreadings(moment) {
                 let mut state = moment.arrived();
-                state.consider(moment.circuit, moment.time, &nodes);
+                let considered = state.consider(moment.circuit, moment.time, &nodes);
+                considered.expect(IN_A_RUN);
                 let shows = moment.time > 0 && state.next != moment.after.next;
                 seen.count(what, shows);
             }

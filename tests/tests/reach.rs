@@ -51,12 +51,12 @@ impl Drawing {
     fn next(&self, nodes: &[u8], flipping: &[u8]) -> Vec<u32> {
         let cell = self.0.clone().finish();
         let circuit = Circuit::new(&cell);
-        let mut state = State::start(&circuit, 0);
+        let mut state = State::start(&circuit, 0).expect("a start");
         for node in circuit.records().filter(|&node| circuit.is_inner(node)) {
             let flips = flipping.iter().any(|&flips| usize::from(flips) == node);
             state.next[node] = if flips { T } else { FAR };
         }
-        state.step(&circuit, 0, T);
+        state.step(&circuit, 0, T).expect("a step");
         nodes
             .iter()
             .map(|&node| state.next[usize::from(node)])
@@ -229,7 +229,7 @@ fn start() {
         .map(|(capacitance, start)| drawing.0.inner(capacitance, start));
     drawing.n(SUPPLY, [high, low]);
     let cell = drawing.0.finish();
-    let state = State::start(&Circuit::new(&cell), 0);
+    let state = State::start(&Circuit::new(&cell), 0).expect("a start");
     let next = [driven, lone, high, low].map(|node| state.next[usize::from(node)]);
     assert_eq!(next, [10, NEVER, NEVER, 20]);
 }

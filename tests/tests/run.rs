@@ -14,7 +14,9 @@ use comparison::refusal::Refusal;
 use comparison::replay::{hex, Cases};
 use comparison::rows;
 use comparison::side_by_side;
-use comparison::simulator::calls::{Call, Lent, ANSWER, RECORD, TIME, USED, VALUES, WORKING};
+use comparison::simulator::calls::{
+    read_run, Call, Lent, ANSWER, RECORD, TIME, USED, VALUES, WORKING,
+};
 use comparison::simulator::circuit::Circuit;
 use comparison::simulator::trial::Trial;
 use comparison::sts;
@@ -46,6 +48,11 @@ struct Seen {
     /// Calls with an earlier record, and calls made with two working tables.
     earlier: u64,
     twice: u64,
+    /// Refused for the ceiling in a table that has no room for a single entry more.
+    ceiling_in_full_table: u64,
+    /// Answered steps and runs of records in which a node is above the ceiling that no
+    /// step reconsidered.
+    passed_by: u64,
     /// How often each fault was the only one, and whether it was refused.
     faults: BTreeMap<(Fault, bool), u64>,
 }
@@ -65,7 +72,27 @@ impl Seen {
         let name = sts::name_on_run(given.call);
         self.answers.entry(name).or_default().count(number);
         self.all.count(number);
+        let used = match given.call {
+            Call::Start { used } => used as usize,
+            _ => before.record.get(USED).map_or(0, |&used| used as usize),
+        };
+        let no_room = used == before.table.letter.len();
+        let ceiling = answered == Err(Refusal::Ceiling);
+        self.ceiling_in_full_table += u64::from(ceiling && no_room);
         answered
+    }
+
+    /// Counts an answered step or run of a record that may be no run's.
+    fn count_passed_by(&mut self, given: &Given, before: &[u32]) {
+        let moves = matches!(given.call, Call::Step | Call::Run { .. });
+        let record = &given.lent.record;
+        if !moves || record[TIME] == before[TIME] {
+            return;
+        }
+        let cell = parse(&given.layout.file).expect("it was answered");
+        let circuit = Circuit::new(&cell);
+        let (_, run, _) = read_run(&circuit, &given.lent).expect("it was answered");
+        self.passed_by += u64::from(run.is_above_ceiling(&circuit));
     }
 
     /// Counts an answered or refused call of a run that was tried before.
@@ -111,6 +138,10 @@ impl Seen {
         println!(
             "{what}: earlier records {}, two working tables {}",
             self.earlier, self.twice
+        );
+        println!(
+            "{what}: above the ceiling in a full table {}, passed by {}",
+            self.ceiling_in_full_table, self.passed_by
         );
         if !self.faults.is_empty() {
             println!("{what}: faults alone, and refused {:?}", self.faults);
@@ -179,6 +210,8 @@ struct Sequence {
     used: u32,
     /// The records that came of the calls so far, the latest last.
     records: Vec<Vec<u32>>,
+    /// The start is refused for the ceiling, and the first record was handed over.
+    handed_over: bool,
 }
 
 impl Sequence {
@@ -216,6 +249,7 @@ impl Sequence {
             table: Columns::of(&entries, length),
             used,
             records: Vec::new(),
+            handed_over: false,
             random,
         }
     }
@@ -236,6 +270,9 @@ impl Sequence {
             let again = given.clone();
             let answered = seen.compare(&mut given, &case);
             seen.count(&given, answered, &before, &self.trial);
+            if self.handed_over && answered.is_ok() {
+                seen.count_passed_by(&given, &before);
+            }
             if call.works() && self.random.one_in(20) {
                 self.other_working(again, seen, &case);
             }
@@ -255,6 +292,9 @@ impl Sequence {
         match random.below(16) {
             0 => Call::Start { used: self.used },
             1..=6 => Call::Step,
+            7..=11 if self.handed_over => Call::Run {
+                until: latest[TIME].saturating_add(random.between(0, 3)),
+            },
             7..=11 => Call::Run {
                 until: until(random, &self.trial, latest[TIME], self.cell.horizon),
             },
@@ -316,7 +356,11 @@ impl Sequence {
         for &fault in faults.iter().rev() {
             given.spoil(random, &self.cell, fault);
         }
+        let before = given.lent.record.clone();
         let answered = seen.compare(given, format!("{case} with {faults:?}"));
+        if answered.is_ok() {
+            seen.count_passed_by(given, &before);
+        }
         if let [fault] = faults[..] {
             *seen.faults.entry((fault, answered.is_err())).or_default() += 1;
         }
@@ -334,7 +378,7 @@ impl Sequence {
     }
 
     /// Goes on with what a call left. A start that does not fit is made again in a
-    /// longer table.
+    /// longer table; where one is refused for the ceiling, a record is handed over.
     fn take(&mut self, given: Given, answered: Answered) {
         match (given.call, answered) {
             (Call::Ask { .. }, _) => {}
@@ -342,6 +386,12 @@ impl Sequence {
                 let need = self.trial.moments[0].used;
                 let length = need + self.random.index(4);
                 self.table = Columns::of(&self.table.entries(self.used as usize), length);
+            }
+            (Call::Start { .. }, Err(Refusal::Ceiling)) if self.records.is_empty() => {
+                let entries = self.table.entries(self.used as usize);
+                let record = records::sound(&mut self.random, &self.cell, &entries);
+                self.records.push(record);
+                self.handed_over = true;
             }
             (_, Ok(())) => {
                 self.table = given.lent.table;
@@ -426,15 +476,15 @@ fn sequences_of_calls() {
 /// were steps of all kinds.
 fn expect_all(seen: &Seen) {
     for (name, answers) in [
-        ("sts_start", &[0, 1, 2, 3, 4, 5, 6, 7, 8][..]),
-        ("sts_step", &[0, 1, 2, 3, 4, 5, 6, 7, 8, 10]),
-        ("sts_run", &[0, 1, 2, 3, 4, 5, 6, 7, 8]),
+        ("sts_start", &[0, 1, 2, 3, 4, 5, 6, 7, 8, 11][..]),
+        ("sts_step", &[0, 1, 2, 3, 4, 5, 6, 7, 8, 10, 11]),
+        ("sts_run", &[0, 1, 2, 3, 4, 5, 6, 7, 8, 11]),
         ("sts_ask", &[0, 1, 2, 3, 4, 5, 7, 8, 9]),
     ] {
         seen.answers[name].expect(10, answers);
     }
     seen.all.expect(100, &[5]);
-    seen.all.expect(500, &[0, 1, 2, 3, 4, 6, 7, 8, 9, 10]);
+    seen.all.expect(500, &[0, 1, 2, 3, 4, 6, 7, 8, 9, 10, 11]);
     for fault in Fault::ALL {
         let count = |refused| seen.faults.get(&(fault, refused)).copied().unwrap_or(0);
         assert!(count(true) + count(false) >= 500, "{fault:?} alone");
@@ -448,6 +498,12 @@ fn expect_all(seen: &Seen) {
         ("one entry too short", seen.short, 500),
         ("earlier records", seen.earlier, 500),
         ("two working tables", seen.twice, 500),
+        (
+            "above the ceiling in a full table",
+            seen.ceiling_in_full_table,
+            100,
+        ),
+        ("passed by", seen.passed_by, 50),
     ] {
         assert!(count >= least, "{what}: {count}");
     }
@@ -512,7 +568,7 @@ fn exact_lengths() {
                 continue;
             }
             let started = given.clone();
-            for _ in 1..trial.moments.len() {
+            for _ in 0..trial.steps() {
                 if next(&mut seen, &mut given, Call::Step, &trial, &case).is_err() {
                     break;
                 }
@@ -528,6 +584,9 @@ fn exact_lengths() {
     seen.answers["sts_start"].expect(200, &[0, 6]);
     seen.answers["sts_step"].expect(200, &[0, 6]);
     seen.answers["sts_run"].expect(200, &[0, 6]);
+    seen.answers["sts_start"].expect(10, &[11]);
+    seen.answers["sts_step"].expect(10, &[11]);
+    seen.answers["sts_run"].expect(10, &[11]);
     assert!(seen.exact >= 1_000, "exactly long enough {}", seen.exact);
     assert!(seen.short >= 500, "one entry too short {}", seen.short);
 }
@@ -561,7 +620,7 @@ fn many_letters() {
                     &trial,
                     &case,
                 );
-                for _ in 1..trial.moments.len() {
+                for _ in 0..trial.steps() {
                     given.lent.working = records::working(&mut random, working);
                     let _ = next(&mut seen, &mut given, Call::Step, &trial, &case);
                 }
@@ -619,7 +678,7 @@ fn more_entries_than_slots() {
                 &case,
             );
             let mut largest = 0;
-            for _ in 1..trial.moments.len() {
+            for _ in 0..trial.steps() {
                 given.lent.working = records::working(&mut random, working);
                 let _ = next(&mut seen, &mut given, Call::Step, &trial, &case);
                 let entries = given.lent.record[VALUES..].iter();
@@ -653,10 +712,6 @@ fn drawn_cells() {
         ] {
             cells.push((format!("{name} of {letters} letters"), cell));
         }
-    }
-    for more in 2_000..2_010 {
-        let name = format!("ceiling and {more} ohm");
-        cells.push((name, designs::at_the_ceiling(more)));
     }
     for (case, cell) in cells {
         let trial = Trial::of(&Circuit::new(&cell), Table::fresh(cell.letters), 4 << 12);

@@ -4,6 +4,7 @@
 
 use comparison::cell_file::{Cell, Layout, Source, FIRST_NODE};
 use comparison::draft::Draft;
+use comparison::fights;
 use comparison::functions::{Columns, Table, FIRST, LENGTHS};
 use comparison::generate::live::{self, Size};
 use comparison::generate::records;
@@ -26,6 +27,15 @@ struct Way {
 impl Way {
     /// Starts a cell and takes some steps; there is room for a few entries more.
     fn new(cell: Cell, steps: usize) -> Way {
+        Way::by(cell, &vec![Call::Step; steps])
+    }
+
+    /// Starts a cell and takes all steps before a time.
+    fn before(cell: Cell, time: u32) -> Way {
+        Way::by(cell, &[Call::Run { until: time - 1 }])
+    }
+
+    fn by(cell: Cell, calls: &[Call]) -> Way {
         let file = Layout::in_order(&cell).file;
         let mut lent = Lent {
             table: Columns::of(&FIRST, *LENGTHS.end()),
@@ -38,7 +48,7 @@ impl Way {
             assert_eq!(answered, Ok(()), "{call:?} of {}", hex(&file));
         };
         take(Call::Start { used: 3 });
-        (0..steps).for_each(|_| take(Call::Step));
+        calls.iter().for_each(|&call| take(call));
         let used = lent.record[USED] as usize;
         lent.table = Columns::of(&lent.table.entries(used), used + 40);
         Way { cell, file, lent }
@@ -96,6 +106,12 @@ fn small() -> Cell {
 /// Ways through cells of all sizes, the largest among them.
 fn ways() -> Vec<Way> {
     let mut ways: Vec<Way> = [0, 1, 3].map(|steps| Way::new(small(), steps)).into();
+    // Fights before the step that is above the ceiling, and before one that would be so
+    // if a value of the record were another.
+    let fight = fights::with_letters(fights::ABOVE[0], fights::OPENS);
+    for cell in [fight, fights::off().cell] {
+        ways.push(Way::before(cell, fights::OPENS));
+    }
     let mut random = Random::new(41);
     for size in [Size::Small, Size::Middle, Size::Dense] {
         // Cells that move, in tables that are not too long to be gone through.
@@ -139,6 +155,7 @@ fn every_place_of_the_record() {
     }
     println!("every place of the record: {tally}");
     tally.expect(1_000, &[0, 7]);
+    tally.expect(100, &[11]);
 }
 
 #[test]
@@ -166,6 +183,7 @@ fn every_number_of_the_table() {
     }
     println!("every number of the table: {tally}");
     tally.expect(1_000, &[0, 7]);
+    tally.expect(10, &[11]);
 }
 
 /// The column of this number: the table's, the record, the working table's and the
@@ -231,6 +249,7 @@ fn every_length() {
     }
     println!("every length: {tally}");
     tally.expect(500, &[0, 8]);
+    tally.expect(10, &[11]);
 }
 
 #[test]
@@ -258,6 +277,7 @@ fn every_byte_of_the_file() {
     }
     println!("every byte of the file: {tally}");
     tally.expect(500, &[0, 1, 2, 3, 4]);
+    tally.expect(100, &[11]);
 }
 
 #[test]

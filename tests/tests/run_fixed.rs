@@ -27,8 +27,11 @@ struct Seen {
     earlier: u64,
     fewer: u64,
     /// Picoseconds at which the first run stood although one of its calls was
-    /// refused for the length of the table.
+    /// refused for the length of the table, or for the ceiling.
     after_full: u64,
+    after_ceiling: u64,
+    /// Starts that are refused for the ceiling, and no more so with letters fixed.
+    removed: u64,
 }
 
 /// A run in a table of its own.
@@ -38,8 +41,9 @@ struct Run {
     file: Vec<u8>,
     trial: Trial,
     lent: Lent,
-    /// A call was refused for the length of the table.
+    /// A call was refused for the length of the table, or for the ceiling.
     was_full: bool,
+    was_above: bool,
 }
 
 impl Run {
@@ -58,6 +62,7 @@ impl Run {
                 answer: vec![0; ANSWER],
             },
             was_full: false,
+            was_above: false,
         }
     }
 
@@ -75,6 +80,7 @@ impl Run {
         seen.all
             .count(answered.map_or_else(Refusal::number, |()| 0));
         self.was_full |= answered == Err(Refusal::Full);
+        self.was_above |= answered == Err(Refusal::Ceiling);
         answered
     }
 
@@ -191,8 +197,10 @@ fn compare(seed: u64, index: u64, seen: &mut Seen) {
         _ => need + random.index(30),
     };
     let length = length.clamp(*LENGTHS.start(), *LENGTHS.end());
-    // A refused start leaves no run.
+    // A refused start leaves no run. Fixing letters may remove the refusal.
     if !first.start(random, seen, length) {
+        let removed = first.was_above && second.start(random, seen, length);
+        seen.removed += u64::from(removed);
         return;
     }
     let case = format!("seed {seed} index {index}, {fixing:?}, length {length}");
@@ -219,6 +227,7 @@ fn compare(seed: u64, index: u64, seen: &mut Seen) {
         }
         not_refused(random, seen, fresh.clone(), length, at, &case);
         seen.after_full += u64::from(first.was_full);
+        seen.after_ceiling += u64::from(first.was_above);
         if second.stands(random, seen, at) {
             same(random, seen, &mut first, &mut second, &fixing, &case);
         }
@@ -292,16 +301,22 @@ fn fixing_and_running() {
         earlier,
         fewer,
         after_full,
+        after_ceiling,
+        removed,
     } = &seen;
     println!("fixing and running: {all}");
     println!("fixing and running: both stood with none, some and all fixed {stood:?}");
     println!("fixing and running: at another time {earlier}, with fewer entries {fewer}");
     println!("fixing and running: stood after a full table {after_full}");
+    println!("fixing and running: stood after the ceiling {after_ceiling}, removed {removed}");
     if cases.complete {
         all.expect(300, &[0, 6, 8, 10]);
+        all.expect(100, &[11]);
         assert!(stood.iter().all(|&count| count >= 500), "{stood:?}");
         assert!(*earlier >= 100, "at another time {earlier}");
         assert!(*fewer >= 500, "with fewer entries {fewer}");
         assert!(*after_full >= 100, "after a full table {after_full}");
+        assert!(*after_ceiling >= 20, "after the ceiling {after_ceiling}");
+        assert!(*removed >= 8, "removed {removed}");
     }
 }

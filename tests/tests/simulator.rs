@@ -2,7 +2,6 @@
 //! numbers that the requirements give.
 
 use comparison::cell_file::{Cell, Channel, Entry, Layout, Node, Role, Source, Transistor};
-use comparison::designs;
 use comparison::functions::{Columns, FIRST, NEVER};
 use comparison::refusal::Refusal;
 use comparison::simulator::arithmetic::{Load, Ohms, Sum, CEILING};
@@ -87,7 +86,7 @@ fn parallel() {
     assert_eq!(Ohms::Infinite.parallel(Ohms::Infinite), Ohms::Infinite);
 }
 
-/// Both sides of an arm come from the old sides; the ceiling is finite.
+/// Both sides of an arm come from the old sides.
 #[test]
 fn arms() {
     let tied = |high, low| Sum {
@@ -98,14 +97,35 @@ fn arms() {
     };
     let finite = Ohms::Finite;
     let both = tied(finite(300), finite(700)).arm(100);
-    assert_eq!(both, tied(finite(443), finite(1034)));
+    assert_eq!(both, Ok(tied(finite(443), finite(1034))));
     let high = tied(finite(300), Ohms::Infinite).arm(100);
-    assert_eq!(high, tied(finite(400), Ohms::Infinite));
+    assert_eq!(high, Ok(tied(finite(400), Ohms::Infinite)));
     let none = tied(Ohms::Infinite, Ohms::Infinite).arm(100);
-    assert_eq!(none, tied(Ohms::Infinite, Ohms::Infinite));
-    let capped = tied(finite(1_000_000), finite(1)).arm(1_000_000);
-    assert_eq!(capped, tied(finite(CEILING), finite(1_000_002)));
-    assert!(!capped.value(true), "the ceiling is no tie");
+    assert_eq!(none, Ok(tied(Ohms::Infinite, Ohms::Infinite)));
+}
+
+/// Exactly the ceiling is answered, on either side, and is no tie; one ohm more is
+/// refused.
+#[test]
+fn arms_about_the_ceiling() {
+    let tied = |high, low| Sum {
+        high: Ohms::Finite(high),
+        low: Ohms::Finite(low),
+        charge_high: 0,
+        charge_low: 0,
+    };
+    let at = tied(52_578, 1).arm(19_018);
+    assert_eq!(at, Ok(tied(CEILING, 19_020)));
+    assert_eq!(at.map(|sum| sum.value(true)), Ok(false), "no tie");
+    assert_eq!(tied(1, 52_578).arm(19_018), Ok(tied(19_020, CEILING)));
+    assert_eq!(tied(42_268, 1).arm(23_657), Err(Refusal::Ceiling));
+    assert_eq!(tied(1, 42_268).arm(23_657), Err(Refusal::Ceiling));
+    let alone = |high| Sum {
+        low: Ohms::Infinite,
+        ..tied(high, 0)
+    };
+    assert_eq!(alone(CEILING - 1).arm(1), Ok(alone(CEILING)));
+    assert_eq!(alone(CEILING).arm(1), Err(Refusal::Ceiling));
 }
 
 /// Case (c), and the charges of cases (d) and (e).
@@ -175,7 +195,8 @@ fn changes(nodes: &[(u16, bool)], channels: &[([u8; 2], u32)]) -> Vec<u32> {
     let channel = |&(ends, resistance)| n(1, ends, resistance);
     let transistors: Vec<Transistor> = channels.iter().map(channel).collect();
     let cell = cell(0, &nodes, &transistors, &[]);
-    State::start(&Circuit::new(&cell), 0).next.split_off(2)
+    let state = State::start(&Circuit::new(&cell), 0).expect("a start");
+    state.next[2..].to_vec()
 }
 
 /// Case (d), either way round, with the delay of document 02, wish 6; equal charges
@@ -363,24 +384,5 @@ fn unsound_records() {
         let beyond = damaged.record[VALUES + 2..NEXT].iter();
         let beyond = beyond.chain(&damaged.record[NEXT + 2..]);
         assert!(answer.is_err() || beyond.into_iter().all(|&number| number == 0));
-    }
-}
-
-/// A tie that only the ceiling makes.
-#[test]
-fn at_the_ceiling() {
-    for (more, expected) in [(2_003, true), (2_004, false), (2_005, false)] {
-        let cell = designs::at_the_ceiling(more);
-        let circuit = Circuit::new(&cell);
-        let values = [false, true, false, false, false, false];
-        let kept = circuit.kept(&values);
-        let walk = Walk {
-            circuit: &circuit,
-            values: &values,
-            kept: &kept,
-        };
-        let sum = walk.sum(5, None);
-        assert_eq!(sum.high == sum.low, more == 2_004, "{more} ohm: {sum:?}");
-        assert_eq!(sum.value(false), expected, "{more} ohm: {sum:?}");
     }
 }

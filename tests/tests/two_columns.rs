@@ -4,6 +4,7 @@
 
 use comparison::functions::NEVER;
 use comparison::other_tool::{self, Sample};
+use comparison::refusal::Refusal;
 use comparison::simulator::circuit::Circuit;
 use comparison::simulator::pattern::State;
 use comparison::simulator::reach::Reach;
@@ -16,7 +17,7 @@ const W0: usize = 12;
 const OVER: u32 = 1110;
 
 /// A step of the other tool.
-fn step(state: &mut State, circuit: &Circuit, pattern: usize, time: u32) {
+fn step(state: &mut State, circuit: &Circuit, pattern: usize, time: u32) -> Result<(), Refusal> {
     let before = state.arrive(circuit, pattern, time);
     let reach = Reach {
         circuit,
@@ -24,7 +25,7 @@ fn step(state: &mut State, circuit: &Circuit, pattern: usize, time: u32) {
         after: &state.values,
     };
     let linked = reach.along(|_| true);
-    state.consider(circuit, time, &linked);
+    state.consider(circuit, time, &linked)
 }
 
 /// What both tools list after the start: the rules, then the other.
@@ -61,12 +62,15 @@ fn differing_lines() {
 }
 
 /// When w0 is due to fall at each pattern, as a step leaves it when w1 goes over.
-fn due(circuit: &Circuit, step: impl Fn(&mut State, usize, u32)) -> Vec<u32> {
-    let mut run = Run::start(circuit);
+fn due(
+    circuit: &Circuit,
+    step: impl Fn(&mut State, usize, u32) -> Result<(), Refusal>,
+) -> Vec<u32> {
+    let mut run = Run::start(circuit).expect("a start");
     while run.now < OVER {
         run.now = run.next_time(circuit).expect("another step");
         for (pattern, state) in run.states.iter_mut().enumerate() {
-            step(state, pattern, run.now);
+            step(state, pattern, run.now).expect("a step");
         }
     }
     run.states.iter().map(|state| state.next[W0]).collect()

@@ -3,6 +3,7 @@
 
 use comparison::functions::NEVER;
 use comparison::other_tool::{self, Sample};
+use comparison::refusal::Refusal;
 use comparison::simulator::circuit::Circuit;
 use comparison::simulator::pattern::State;
 use comparison::simulator::reach::Reach;
@@ -19,7 +20,13 @@ enum Order {
 
 /// A step of the tool that is wrong: each wire is flipped, and what it reaches is read,
 /// before the next one is.
-fn step(state: &mut State, circuit: &Circuit, pattern: usize, time: u32, order: Order) {
+fn step(
+    state: &mut State,
+    circuit: &Circuit,
+    pattern: usize,
+    time: u32,
+    order: Order,
+) -> Result<(), Refusal> {
     let entries = circuit.cell.schedule.iter();
     let now = entries.filter(|entry| entry.time == time);
     let sources = now.map(|entry| (usize::from(entry.node), entry.source.at(pattern)));
@@ -40,8 +47,9 @@ fn step(state: &mut State, circuit: &Circuit, pattern: usize, time: u32, order: 
             after: &state.values,
         };
         let reconsidered = reach.reconsidered();
-        state.consider(circuit, time, &reconsidered);
+        state.consider(circuit, time, &reconsidered)?;
     }
+    Ok(())
 }
 
 /// Runs a cell one by one to its end; gives also its listing after the start.
@@ -68,9 +76,9 @@ fn side_by_side() {
 fn told_apart_by_one_pattern() {
     let cell = SAMPLE.cell();
     let circuit = Circuit::new(&cell);
-    let mut by_the_rules = Run::start(&circuit);
+    let mut by_the_rules = Run::start(&circuit).expect("a start");
     while let Some(time) = by_the_rules.next_time(&circuit) {
-        by_the_rules.step(&circuit, time);
+        by_the_rules.step(&circuit, time).expect("a step");
     }
     // The nodes p0, p1 and r.
     let ends = |run: &Run| [8, 13, 15].map(|node| run.states[1].values[node]);

@@ -4,7 +4,7 @@ use comparison::vectors::{self, Vector};
 use comparison::waves;
 
 /// How many listings `tests/vectors` has.
-const GIVEN: usize = 81;
+const GIVEN: usize = 103;
 
 fn compare(vectors: &[Vector]) {
     for vector in vectors {

@@ -2,6 +2,7 @@
 
 use comparison::cell_file::Layout;
 use comparison::designs;
+use comparison::fights;
 use comparison::generate::live::{self, Size};
 use comparison::generate::Case;
 use comparison::program::{self, Written};
@@ -34,6 +35,29 @@ fn live_cells() {
         let expected = waves::of_file(&file);
         assert_eq!(printed, Ok(expected), "round {round}, {}", hex(&file));
     }
+}
+
+/// Cells about the ceiling: `refused 11` comes in place of what would follow, also where
+/// the table is too short.
+#[test]
+fn ceiling() {
+    let about = [fights::EXACTLY[0], fights::ABOVE[0]];
+    let starts = about.map(fights::at_start);
+    let steps = about.map(|fight| fights::with_letters(fight, fights::OPENS));
+    let many = [0, fights::OPENS].map(fights::one_pattern);
+    let refused = waves::of_file(&Layout::in_order(&steps[1]).file);
+    for cell in [starts, steps, many].concat() {
+        let file = Layout::in_order(&cell).file;
+        for (argument, length) in LENGTHS {
+            let printed = program::run_with("waves", &[argument], &file);
+            let expected = written(&waves::in_table(&file, length));
+            assert_eq!(printed, Ok(expected), "{argument}, {}", hex(&file));
+        }
+    }
+    let (lines, last) = refused.trim_end().rsplit_once('\n').expect("lines");
+    assert_eq!(last, "refused 11");
+    let lists = |time: u32| lines.contains(&format!("\n{time} "));
+    assert!(lists(fights::FIRST) && !lists(fights::OPENS), "{lines}");
 }
 
 /// Files that are refused.

@@ -1,9 +1,9 @@
 //! Cells in which much happens: channels that meet, gates that are driven by what
-//! they drive, ties, loops, resistances about the ceilings, wires that move
+//! they drive, ties, loops, resistances about the ceiling, wires that move
 //! together.
 
 use super::legal::source;
-use super::shifter;
+use super::{fights, shifter};
 use crate::cell_file::{Cell, Channel, Source, CAPACITANCES, HORIZONS, RESISTANCES};
 use crate::draft::{Draft, GROUND, SUPPLY};
 use crate::random::Random;
@@ -31,7 +31,7 @@ pub(super) struct Parts {
 impl Parts {
     fn draw(random: &mut Random, letters: u32) -> Parts {
         let (least, most) = (*RESISTANCES.start(), *RESISTANCES.end());
-        let resistances = match random.below(9) {
+        let resistances = match random.below(10) {
             0 => vec![1_000],
             1 => vec![1_000, 2_000],
             2 => vec![least, most],
@@ -39,6 +39,7 @@ impl Parts {
             4 => vec![1, 2, 3, 5, 7],
             5 => vec![most],
             6 => vec![500, 1_000, 1_500, 3_000],
+            7 => vec![most, 57, 58, 60, 1_000],
             _ => (0..5).map(|_| random.spread(least, most)).collect(),
         };
         let largest = *CAPACITANCES.end();
@@ -119,9 +120,10 @@ pub fn cell(random: &mut Random, size: Size, letters: u32) -> Cell {
     let parts = Parts::draw(random, letters);
     let horizon = parts.horizon(random);
     let mut draft = Draft::new(letters, horizon);
-    let inputs = match random.below(4) {
-        0 => gates(random, &parts, &mut draft, size),
-        1 => shifter::columns(random, &parts, &mut draft, size, horizon),
+    let inputs = match random.below(9) {
+        0 | 1 => gates(random, &parts, &mut draft, size),
+        2 | 3 => shifter::columns(random, &parts, &mut draft, size, horizon),
+        4 => fights::fights(random, &parts, &mut draft, size),
         _ => channels(random, &parts, &mut draft, size),
     };
     parts.schedule(random, &mut draft, &inputs, horizon);
@@ -164,10 +166,11 @@ fn slow_chain(random: &mut Random, letters: u32) -> Cell {
     let horizon = *HORIZONS.end();
     let mut draft = Draft::new(letters, horizon);
     let gate = draft.input(source(random, letters));
-    let length = random.between(11, 22);
+    let length = 23;
+    let resistance = *RESISTANCES.end();
     // Elmore's delay of the chain's end is that of so many of its capacitances.
     let shares = length * (length + 1) / 2;
-    let capacitance = (u32::MAX / 1_000 / shares + random.between(0, 3)) as u16;
+    let capacitance = (u32::MAX / (resistance / 1_000) / shares + random.between(0, 3)) as u16;
     let start = match random.one_in(2) {
         true => Source::High,
         false => source(random, letters),
@@ -176,7 +179,7 @@ fn slow_chain(random: &mut Random, letters: u32) -> Cell {
     for _ in 0..length {
         let to = draft.inner(capacitance, start);
         let gate = random.pick(&[gate, SUPPLY]);
-        draft.n(gate, [from, to], *RESISTANCES.end());
+        draft.n(gate, [from, to], resistance);
         from = to;
     }
     let time = random.spread(1, horizon);

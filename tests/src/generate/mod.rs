@@ -5,6 +5,7 @@ pub mod calls;
 pub mod counted;
 pub mod damage;
 pub mod faults;
+mod fights;
 pub mod functions;
 pub mod legal;
 pub mod live;

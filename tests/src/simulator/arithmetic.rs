@@ -1,6 +1,9 @@
-//! Resistances, charges and delays: the arithmetic of rules 4 to 6.
+//! Resistances, charges and delays: the arithmetic of rules 4 to 6. What would be above
+//! the ceiling is refused (document 02, wish 3).
 
-/// No finite resistance is larger, in ohm.
+use crate::refusal::Refusal;
+
+/// The largest finite resistance of an arm, in ohm.
 pub const CEILING: u64 = 1_000_000_000;
 
 /// A resistance in ohm. The infinite one is larger than all others.
@@ -13,9 +16,12 @@ pub enum Ohms {
 use Ohms::{Finite, Infinite};
 
 impl Ohms {
-    /// A finite resistance, at most the ceiling.
-    fn capped(ohms: u64) -> Ohms {
-        Finite(ohms.min(CEILING))
+    /// A finite resistance, unless it is above the ceiling.
+    fn within_ceiling(ohms: u64) -> Result<Ohms, Refusal> {
+        match ohms <= CEILING {
+            true => Ok(Finite(ohms)),
+            false => Err(Refusal::Ceiling),
+        }
     }
 
     /// Both in parallel; the infinite one changes nothing.
@@ -28,11 +34,13 @@ impl Ohms {
 
     /// One side of an arm: this side of the far node's sum, the other side of it,
     /// and the transistor's resistance.
-    fn through(self, other: Ohms, r: u64) -> Ohms {
+    fn through(self, other: Ohms, r: u64) -> Result<Ohms, Refusal> {
         match (self, other) {
-            (Infinite, _) => Infinite,
-            (Finite(own), Infinite) => Ohms::capped(own + r),
-            (Finite(own), Finite(other)) => Ohms::capped(own + r + (r * own).div_ceil(other)),
+            (Infinite, _) => Ok(Infinite),
+            (Finite(own), Infinite) => Ohms::within_ceiling(own + r),
+            (Finite(own), Finite(other)) => {
+                Ohms::within_ceiling(own + r + (r * own).div_ceil(other))
+            }
         }
     }
 }
@@ -79,14 +87,15 @@ impl Sum {
         }
     }
 
-    /// The arm: a transistor's resistance before this.
-    pub fn arm(self, resistance: u32) -> Sum {
+    /// The arm: a transistor's resistance before this. Either side may be above the
+    /// ceiling, also the one that does not decide.
+    pub fn arm(self, resistance: u32) -> Result<Sum, Refusal> {
         let r = u64::from(resistance);
-        Sum {
-            high: self.high.through(self.low, r),
-            low: self.low.through(self.high, r),
+        Ok(Sum {
+            high: self.high.through(self.low, r)?,
+            low: self.low.through(self.high, r)?,
             ..self
-        }
+        })
     }
 
     /// A side drives the node; else charge decides.
@@ -107,7 +116,8 @@ impl Sum {
     }
 }
 
-/// What a node is charged through, and how much: the walk of rule 6.
+/// What a node is charged through, and how much: the walk of rule 6. No resistance of
+/// it comes near the ceiling, since the transistors of a way are in series there.
 #[derive(Clone, Copy, Debug, PartialEq, Eq)]
 pub struct Load {
     pub resistance: Ohms,
@@ -146,7 +156,7 @@ impl Load {
         match self.resistance {
             Infinite => self,
             Finite(own) => Load {
-                resistance: Ohms::capped(own + r),
+                resistance: Finite(own + r),
                 capacitance: (self.capacitance * own).div_ceil(own + r),
             },
         }

@@ -91,7 +91,8 @@ fn fits(columns: &Columns, lengths: &RangeInclusive<usize>) -> bool {
 
 fn start(circuit: &Circuit, used: u32, lent: &mut Lent) -> Result<(), Refusal> {
     let mut table = read_table(circuit.cell, used, lent)?;
-    let run = Run::start(circuit);
+    // Whether an arm is above the ceiling comes before whether the table is full.
+    let run = Run::start(circuit)?;
     let mut stored = Stored::default();
     keep(&run, circuit, &mut stored, &mut table, lent)?;
     write(&run, &stored, &table, lent);
@@ -101,7 +102,7 @@ fn start(circuit: &Circuit, used: u32, lent: &mut Lent) -> Result<(), Refusal> {
 fn step(circuit: &Circuit, lent: &mut Lent) -> Result<(), Refusal> {
     let (mut table, mut run, mut stored) = read_run(circuit, lent)?;
     let time = run.next_time(circuit).ok_or(Refusal::Finished)?;
-    run.step(circuit, time);
+    run.step(circuit, time)?;
     keep(&run, circuit, &mut stored, &mut table, lent)?;
     write(&run, &stored, &table, lent);
     Ok(())
@@ -110,7 +111,7 @@ fn step(circuit: &Circuit, lent: &mut Lent) -> Result<(), Refusal> {
 fn run(circuit: &Circuit, until: u32, lent: &mut Lent) -> Result<(), Refusal> {
     let (mut table, mut run, mut stored) = read_run(circuit, lent)?;
     while let Some(time) = run.next_time(circuit).filter(|&time| time <= until) {
-        run.step(circuit, time);
+        run.step(circuit, time)?;
         keep(&run, circuit, &mut stored, &mut table, lent)?;
     }
     write(&run, &stored, &table, lent);

@@ -2,7 +2,9 @@
 
 use super::circuit::Circuit;
 use super::pattern::State;
+use super::walk::Walk;
 use crate::functions::{Table, NEVER};
+use crate::refusal::Refusal;
 
 /// A run at one moment: the state of every pattern.
 #[derive(Clone, Debug)]
@@ -12,14 +14,14 @@ pub struct Run {
 }
 
 impl Run {
-    /// The start, at time 0.
-    pub fn start(circuit: &Circuit) -> Run {
-        Run {
+    /// The start, at time 0; refused if it is so at any pattern.
+    pub fn start(circuit: &Circuit) -> Result<Run, Refusal> {
+        let patterns = 0..circuit.patterns();
+        let states = patterns.map(|pattern| State::start(circuit, pattern));
+        Ok(Run {
             now: 0,
-            states: (0..circuit.patterns())
-                .map(|pattern| State::start(circuit, pattern))
-                .collect(),
-        }
+            states: states.collect::<Result<_, _>>()?,
+        })
     }
 
     /// The earliest time over all patterns at which something happens.
@@ -32,12 +34,28 @@ impl Run {
             .min()
     }
 
-    /// The step to a time.
-    pub fn step(&mut self, circuit: &Circuit, time: u32) {
+    /// The step to a time; refused if it is so at any pattern, and the run is of no use
+    /// then.
+    pub fn step(&mut self, circuit: &Circuit, time: u32) -> Result<(), Refusal> {
         for (pattern, state) in self.states.iter_mut().enumerate() {
-            state.step(circuit, pattern, time);
+            state.step(circuit, pattern, time)?;
         }
         self.now = time;
+        Ok(())
+    }
+
+    /// Some inner node has an arm above the ceiling at some pattern, whether a step
+    /// reconsiders it or not. No node has one in a run that was started.
+    pub fn is_above_ceiling(&self, circuit: &Circuit) -> bool {
+        self.states.iter().any(|State { values, .. }| {
+            let kept = &circuit.kept(values);
+            let walk = Walk {
+                circuit,
+                values,
+                kept,
+            };
+            circuit.records().any(|node| walk.sum(node, None).is_err())
+        })
     }
 
     /// The functions of a run in the order in which they are stored: the values of

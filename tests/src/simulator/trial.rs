@@ -15,38 +15,44 @@ pub struct Moment {
 /// The beginning of a run.
 #[derive(Clone, Debug)]
 pub struct Trial {
-    /// The start and the first steps.
+    /// The start and the first steps. A start that is refused adds no entries.
     pub moments: Vec<Moment>,
-    /// The time of the next step, if there is one.
+    /// The time of the next step, if there is one that was not tried.
     pub next: Option<u32>,
+    /// The time of the start or step that is refused for the ceiling, if one is.
+    pub refused: Option<u32>,
     /// The most node values that changed in one step, each for some pattern.
     pub together: usize,
 }
 
 impl Trial {
-    /// Runs a cell in a table until it is finished, the table is full at its
-    /// longest, or so many states were worked out.
+    /// Runs a cell in a table until it is finished or refused for the ceiling, the
+    /// table is full at its longest, or so many states were worked out.
     pub fn of(circuit: &Circuit, mut table: Table, states: usize) -> Trial {
-        let mut run = Run::start(circuit);
-        let mut stored = Stored::default();
-        stored.update(&run, circuit, &mut table);
         let mut trial = Trial {
             moments: Vec::new(),
             next: None,
+            refused: None,
             together: 0,
         };
+        let Ok(mut run) = Run::start(circuit) else {
+            trial.refused = Some(0);
+            trial.push(0, &table);
+            return trial;
+        };
+        let mut stored = Stored::default();
+        stored.update(&run, circuit, &mut table);
         loop {
-            trial.moments.push(Moment {
-                time: run.now,
-                used: table.entries().len(),
-            });
+            trial.push(run.now, &table);
             trial.next = run.next_time(circuit);
             let spent = trial.moments.len() * run.states.len();
-            match trial.next {
-                Some(time) if spent < states && table.entries().len() <= *LENGTHS.end() => {
-                    run.step(circuit, time)
-                }
-                _ => return trial,
+            let more = spent < states && table.entries().len() <= *LENGTHS.end();
+            let Some(time) = trial.next.filter(|_| more) else {
+                return trial;
+            };
+            if run.step(circuit, time).is_err() {
+                (trial.next, trial.refused) = (None, Some(time));
+                return trial;
             }
             let before = stored.entries.clone();
             stored.update(&run, circuit, &mut table);
@@ -57,9 +63,21 @@ impl Trial {
         }
     }
 
-    /// The last picosecond up to which a run takes no other steps than these.
+    fn push(&mut self, time: u32, table: &Table) {
+        let used = table.entries().len();
+        self.moments.push(Moment { time, used });
+    }
+
+    /// The last picosecond up to which a run takes no other steps than these, and is
+    /// refused no other.
     pub fn last(&self) -> u32 {
         self.next.map_or(u32::MAX, |time| time - 1)
+    }
+
+    /// How many steps were tried, one that is refused among them.
+    pub fn steps(&self) -> usize {
+        let refused = self.refused.is_some_and(|time| time > 0);
+        self.moments.len() - 1 + usize::from(refused)
     }
 
     /// How many of the moments are after one time and not after another.

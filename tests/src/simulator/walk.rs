@@ -3,6 +3,7 @@
 
 use super::arithmetic::{Load, Sum};
 use super::circuit::Circuit;
+use crate::refusal::Refusal;
 
 /// Where the walk of rule 6 ends.
 #[derive(Clone, Copy, Debug, PartialEq, Eq)]
@@ -42,16 +43,17 @@ impl Walk<'_> {
             .map(move |transistor| (transistor, self.circuit.far_end(transistor, node)))
     }
 
-    /// The sum of a node.
-    pub fn sum(&self, node: usize, by: Option<usize>) -> Sum {
+    /// The sum of a node; refused where an arm on the way is above the ceiling.
+    pub fn sum(&self, node: usize, by: Option<usize>) -> Result<Sum, Refusal> {
         let value = self.values[node];
         let Some(capacitance) = self.circuit.capacitance(node) else {
-            return Sum::driven(value);
+            return Ok(Sum::driven(value));
         };
         let own = Sum::inner(value, capacitance);
-        self.arms(node, by).fold(own, |sum, (transistor, far)| {
+        self.arms(node, by).try_fold(own, |sum, (transistor, far)| {
             let resistance = self.circuit.resistance(transistor);
-            sum.join(self.sum(far, Some(transistor)).arm(resistance))
+            let far = self.sum(far, Some(transistor))?;
+            Ok(sum.join(far.arm(resistance)?))
         })
     }
 
