@@ -93,7 +93,7 @@ static void print_refusal(uint32_t answer)
 {
     static const char *const words[] = {
         "answered", "length", "header",  "chain",  "record",   "order",
-        "full",     "unsound", "buffer", "question", "finished",
+        "full",     "unsound", "buffer", "question", "finished", "ceiling",
     };
     const char *word = answer < sizeof words / sizeof words[0] ? words[answer] : "unknown";
 

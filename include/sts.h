@@ -83,19 +83,23 @@ enum sts_answer {
        letters, or a function takes other numbers than 0 and 1 where it may not. */
     STS_QUESTION = 9,
     /* The run is finished: nothing pends and nothing is scheduled. */
-    STS_FINISHED = 10
+    STS_FINISHED = 10,
+    /* A resistance would be above the ceiling, 1,000,000,000 ohm: the cell is drawn
+       with an error. */
+    STS_CEILING = 11
 };
 
 /*
  * The limits of a cell: the most node records, transistors, schedule entries and
- * letters, and the latest horizon in ps. A call on a function table may have that
- * many letters too.
+ * letters, the latest horizon in ps, and the largest resistance of a transistor in
+ * ohm. A call on a function table may have that many letters too.
  */
 #define STS_MOST_NODES 24
 #define STS_MOST_TRANSISTORS 64
 #define STS_MOST_ENTRIES 64
 #define STS_MOST_LETTERS 12
 #define STS_MOST_HORIZON 1000000
+#define STS_MOST_RESISTANCE 240000
 
 /* The bytes of a cell file's header and of each of its records. */
 #define STS_RECORD_BYTES 16
@@ -463,6 +467,17 @@ uint32_t sts_count(uint32_t letters,
  * be that end itself. All other nodes keep their next change. A start works out
  * those of every inner node.
  *
+ * What a start or step works out anew has a ceiling. Supply and ground may pull at
+ * one node. Seen from behind one more transistor, of r ohm, a pull of R ohm against
+ * one of S ohm has R + r + r * R / S ohm, rounded up. Where this would be above
+ * 1,000,000,000, for either of the two, on the way to a node that is worked out anew
+ * and at any pattern, the start or step is refused, STS_CEILING. It then does not
+ * matter whether the table is long enough. In a cell this is a drawing error: a very
+ * weak transistor before a node at which a strong pull and a weak one fight.
+ * docs/REFUSALS.md tells how to find it. No run that was started holds such a node; in
+ * a record that was written otherwise one may stand, and is not looked at as long as
+ * no step works it out anew.
+ *
  * Values and next changes are functions of the letters and stand in a function
  * table. The caller keeps them beside it in a record, STS_RECORD_LENGTH numbers
  * that enum sts_record names:
@@ -522,6 +537,8 @@ uint32_t sts_count(uint32_t letters,
  *   STS_UNSOUND   the record is not sound with its table
  *   STS_FINISHED  at no pattern does anything pend, and nothing is scheduled after
  *                 the record's time
+ *   STS_CEILING   a resistance would be above the ceiling, at some pattern, on the way
+ *                 to a node whose next change is worked out
  *   STS_QUESTION  there is no such node or pattern
  *   STS_FULL      the entries used and those to be added are more than the table's
  *                 length, and only then: where they just fit, it is answered
@@ -571,7 +588,7 @@ enum sts_told {
  *   work_letter, work_low, work_high  the working columns
  *
  * Returns STS_OK, STS_BUFFER, STS_LENGTH, STS_HEADER, STS_CHAIN, STS_RECORD,
- * STS_ORDER, STS_UNSOUND or STS_FULL.
+ * STS_ORDER, STS_UNSOUND, STS_CEILING or STS_FULL.
  *
  *   STS_UNSOUND  here if the table is not sound for K letters with used
  */
@@ -596,7 +613,7 @@ uint32_t sts_start(const uint8_t *file, size_t file_length,
  *   work_letter, work_low, work_high  the working columns
  *
  * Returns STS_OK, STS_BUFFER, STS_LENGTH, STS_HEADER, STS_CHAIN, STS_RECORD,
- * STS_ORDER, STS_UNSOUND, STS_FINISHED or STS_FULL.
+ * STS_ORDER, STS_UNSOUND, STS_FINISHED, STS_CEILING or STS_FULL.
  */
 uint32_t sts_step(const uint8_t *file, size_t file_length,
                   uint32_t *letter, size_t letter_length,
@@ -685,8 +702,8 @@ uint32_t sts_advance(const uint8_t *file, size_t file_length,
  * Takes every step that is not later than a time, and no other. Afterwards the
  * record has the time of the last step taken, or its own where there was none: it
  * is not moved to until. A run that is finished is answered without a step. Where
- * one of the steps does not fit into the table, the whole call is refused and none
- * is kept.
+ * one of the steps is refused, for the ceiling or since it does not fit into the
+ * table, the whole call is, with the number of the first such step, and none is kept.
  *
  *   file, file_length                 the file's bytes; any length
  *   until                             a time in ps; any number
@@ -696,7 +713,7 @@ uint32_t sts_advance(const uint8_t *file, size_t file_length,
  *   work_letter, work_low, work_high  the working columns
  *
  * Returns STS_OK, STS_BUFFER, STS_LENGTH, STS_HEADER, STS_CHAIN, STS_RECORD,
- * STS_ORDER, STS_UNSOUND or STS_FULL.
+ * STS_ORDER, STS_UNSOUND, STS_CEILING or STS_FULL.
  */
 uint32_t sts_run(const uint8_t *file, size_t file_length,
                  uint32_t until,

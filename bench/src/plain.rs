@@ -1,5 +1,7 @@
 //! A plain program for the same cells: it runs one pattern after the other, each
-//! as a simulation of its own, and stores nothing but how each ends.
+//! as a simulation of its own, and stores nothing but how each ends. It refuses a
+//! cell that is above the ceiling at some pattern; a table it has not, so that
+//! nothing is full.
 //!
 //! It is made to be fast: fixed arrays, sets of nodes and transistors as bits, no
 //! allocation, and each arm of a kept tree worked out once for all nodes that read
@@ -14,7 +16,15 @@ const TRANSISTORS: usize = 64;
 /// The time of no change, and a resistance without end.
 pub const NEVER: u32 = u32::MAX;
 const INFINITE: u64 = u64::MAX;
+/// The largest finite resistance of an arm.
 const CEILING: u64 = 1_000_000_000;
+
+/// An arm would be above the ceiling.
+#[derive(Clone, Copy, Debug, PartialEq, Eq)]
+pub struct AboveCeiling;
+
+/// The number of this refusal.
+pub const REFUSED: u32 = 11;
 
 #[derive(Clone, Copy, Default)]
 struct Transistor {
@@ -43,6 +53,7 @@ pub struct Plain {
 }
 
 /// How a pattern stands in the end: the values as a set, and the next changes.
+#[derive(Debug)]
 pub struct Ended {
     pub values: u32,
     pub next: [u32; NODES],
@@ -120,14 +131,20 @@ impl Plain {
     }
 
     /// Runs all patterns; gives the number of nodes that are high in the end.
-    pub fn run_all<const REMEMBER: bool>(&self, work: &mut Work) -> u32 {
+    pub fn run_all<const REMEMBER: bool>(&self, work: &mut Work) -> Result<u32, AboveCeiling> {
         let patterns = 0..1 << self.letters;
         let ended = patterns.map(|pattern| self.run::<REMEMBER>(pattern, work));
-        ended.map(|ended| ended.values.count_ones()).sum()
+        ended
+            .map(|ended| ended.map(|ended| ended.values.count_ones()))
+            .sum()
     }
 
     /// Runs a pattern to its end.
-    pub fn run<const REMEMBER: bool>(&self, pattern: usize, work: &mut Work) -> Ended {
+    pub fn run<const REMEMBER: bool>(
+        &self,
+        pattern: usize,
+        work: &mut Work,
+    ) -> Result<Ended, AboveCeiling> {
         let sources = self.start[..self.nodes].iter().enumerate();
         let value = |(node, source): (usize, &Source)| u32::from(source.at(pattern)) << node;
         let mut values = sources.map(value).fold(0, |set, bit| set | bit);
@@ -135,14 +152,14 @@ impl Plain {
         let high = members(u64::from(values));
         let mut on = high.fold(self.p, |on, node| on ^ self.gated[node]);
         let mut next = [NEVER; NODES];
-        self.consider::<REMEMBER>((values, on), &mut next, self.inner, 0, work);
+        self.consider::<REMEMBER>((values, on), &mut next, self.inner, 0, work)?;
         let mut entries = self.schedule.iter().peekable();
         loop {
             let pending = next.iter().copied().fold(NEVER, u32::min);
             let scheduled = entries.peek().map_or(NEVER, |entry| entry.0);
             let time = pending.min(scheduled);
             if time == NEVER {
-                return Ended { values, next };
+                return Ok(Ended { values, next });
             }
             let mut changed = 0;
             for (node, next) in next.iter_mut().enumerate() {
@@ -161,7 +178,7 @@ impl Plain {
                 on ^= self.gated[node];
                 ends |= self.disturbs[node];
             }
-            self.consider::<REMEMBER>((values, on), &mut next, ends, time, work);
+            self.consider::<REMEMBER>((values, on), &mut next, ends, time, work)?;
         }
     }
 
@@ -175,7 +192,7 @@ impl Plain {
         mut ends: u32,
         time: u32,
         work: &mut Work,
-    ) {
+    ) -> Result<(), AboveCeiling> {
         work.forget();
         while ends != 0 {
             let (nodes, kept) = self.piece(on, ends.trailing_zeros());
@@ -189,9 +206,10 @@ impl Plain {
                 work,
             };
             for node in members(u64::from(nodes)) {
-                next[node] = walk.next_change::<REMEMBER>(node, next[node], time);
+                next[node] = walk.next_change::<REMEMBER>(node, next[node], time)?;
             }
         }
+        Ok(())
     }
 
     /// The inner nodes that conducting channels join with a node, and the kept
@@ -294,11 +312,15 @@ fn parallel(a: u64, b: u64) -> u64 {
     }
 }
 
-fn through(own: u64, other: u64, r: u64) -> u64 {
-    match (own, other) {
-        (INFINITE, _) => INFINITE,
-        (_, INFINITE) => (own + r).min(CEILING),
-        _ => (own + r + (r * own).div_ceil(other)).min(CEILING),
+fn through(own: u64, other: u64, r: u64) -> Result<u64, AboveCeiling> {
+    let ohms = match (own, other) {
+        (INFINITE, _) => return Ok(INFINITE),
+        (_, INFINITE) => own + r,
+        _ => own + r + (r * own).div_ceil(other),
+    };
+    match ohms <= CEILING {
+        true => Ok(ohms),
+        false => Err(AboveCeiling),
     }
 }
 
@@ -317,9 +339,14 @@ struct Walk<'a> {
 }
 
 impl Walk<'_> {
-    fn next_change<const REMEMBER: bool>(&mut self, node: usize, pending: u32, time: u32) -> u32 {
+    fn next_change<const REMEMBER: bool>(
+        &mut self,
+        node: usize,
+        pending: u32,
+        time: u32,
+    ) -> Result<u32, AboveCeiling> {
         let present = self.values >> node & 1;
-        let sum = self.sum::<REMEMBER>(node, 0);
+        let sum = self.sum::<REMEMBER>(node, 0)?;
         let by_charge = (sum.high, sum.low) == (INFINITE, INFINITE);
         let (for_high, for_low) = match by_charge {
             true => (sum.charge_high, sum.charge_low),
@@ -331,7 +358,7 @@ impl Walk<'_> {
             std::cmp::Ordering::Equal => present,
         };
         if new == present {
-            return NEVER;
+            return Ok(NEVER);
         }
         self.new = new;
         self.ends = match (by_charge, new) {
@@ -347,8 +374,8 @@ impl Walk<'_> {
         let delay = (load.resistance * load.capacitance).div_ceil(1000).max(1);
         let due = (u64::from(time) + delay).min(u64::from(pending));
         match due <= u64::from(self.plain.horizon) {
-            true => due as u32,
-            false => NEVER,
+            true => Ok(due as u32),
+            false => Ok(NEVER),
         }
     }
 
@@ -357,7 +384,7 @@ impl Walk<'_> {
         members(self.kept & self.plain.channels[node] & !by)
     }
 
-    fn sum<const REMEMBER: bool>(&mut self, node: usize, by: u64) -> Sum {
+    fn sum<const REMEMBER: bool>(&mut self, node: usize, by: u64) -> Result<Sum, AboveCeiling> {
         let capacitance = self.plain.capacitance[node];
         let value = u64::from(self.values >> node & 1);
         let mut sum = Sum {
@@ -367,40 +394,44 @@ impl Walk<'_> {
             charge_low: (1 - value) * capacitance,
         };
         for number in self.arms(node, by) {
-            let arm = self.arm_sum::<REMEMBER>(number, node);
+            let arm = self.arm_sum::<REMEMBER>(number, node)?;
             sum.high = parallel(sum.high, arm.high);
             sum.low = parallel(sum.low, arm.low);
             sum.charge_high += arm.charge_high;
             sum.charge_low += arm.charge_low;
         }
-        sum
+        Ok(sum)
     }
 
-    fn arm_sum<const REMEMBER: bool>(&mut self, number: usize, near: usize) -> Sum {
+    fn arm_sum<const REMEMBER: bool>(
+        &mut self,
+        number: usize,
+        near: usize,
+    ) -> Result<Sum, AboveCeiling> {
         let (far, side) = self.plain.far(number, near);
         let r = self.plain.transistors[number].resistance;
         if self.plain.inner >> far & 1 == 0 {
             let high = self.values >> far & 1 == 1;
-            return Sum {
+            return Ok(Sum {
                 high: if high { r } else { INFINITE },
                 low: if high { INFINITE } else { r },
                 ..Sum::default()
-            };
+            });
         }
         if REMEMBER && self.work.known_sums[side] >> number & 1 == 1 {
-            return self.work.sums[side][number];
+            return Ok(self.work.sums[side][number]);
         }
-        let sum = self.sum::<REMEMBER>(far, 1 << number);
+        let sum = self.sum::<REMEMBER>(far, 1 << number)?;
         let arm = Sum {
-            high: through(sum.high, sum.low, r),
-            low: through(sum.low, sum.high, r),
+            high: through(sum.high, sum.low, r)?,
+            low: through(sum.low, sum.high, r)?,
             ..sum
         };
         if REMEMBER {
             self.work.sums[side][number] = arm;
             self.work.known_sums[side] |= 1 << number;
         }
-        arm
+        Ok(arm)
     }
 
     fn load<const REMEMBER: bool>(&mut self, node: usize, by: u64) -> Load {
@@ -435,7 +466,7 @@ impl Walk<'_> {
         let arm = match load.resistance {
             INFINITE => load,
             ohms => Load {
-                resistance: (ohms + r).min(CEILING),
+                resistance: ohms + r,
                 capacitance: (load.capacitance * ohms).div_ceil(ohms + r),
             },
         };

@@ -2,7 +2,7 @@
 //! after the other.
 
 use bench::cells::{self, Named};
-use bench::plain::{Plain, Work};
+use bench::plain::{AboveCeiling, Plain, Work, REFUSED};
 use bench::run::Tool;
 use comparison::cell_file::{Cell, FIRST_NODE};
 use comparison::functions::Table;
@@ -12,6 +12,9 @@ use std::time::{Duration, Instant};
 /// How often each run is timed at most; the fastest counts. One that takes longer
 /// than a second is timed once.
 const ROUNDS: usize = 5;
+
+/// What the tool answers is above the ceiling at no pattern.
+const ANSWERED: &str = "the tool answers";
 
 /// The fastest of some rounds.
 fn least(mut round: impl FnMut() -> Duration) -> Duration {
@@ -25,18 +28,30 @@ fn least(mut round: impl FnMut() -> Duration) -> Duration {
     least
 }
 
-/// The time that the plain program takes for all patterns.
+/// The time that the plain program takes for all patterns, up to one that is refused.
 fn time_plain<const REMEMBER: bool>(plain: &Plain) -> Duration {
     let mut work = Work::new();
     least(|| {
         let start = Instant::now();
-        std::hint::black_box(plain.run_all::<REMEMBER>(&mut work));
+        let _ = std::hint::black_box(plain.run_all::<REMEMBER>(&mut work));
         start.elapsed()
     })
 }
 
-/// Fails unless both programs end with the same values and next changes.
-fn check(cell: &Cell, tool: &Tool, plain: &Plain) {
+/// Fails unless both programs refuse alike or end with the same values and next changes.
+/// The plain program has no table that could be full.
+fn check(cell: &Cell, tool: &Tool, plain: &Plain, answer: u32) {
+    match answer {
+        0 => check_ends(cell, tool, plain),
+        REFUSED => {
+            let plain = plain.run_all::<true>(&mut Work::new());
+            assert_eq!(plain, Err(AboveCeiling), "the tool refuses {answer}");
+        }
+        _ => {}
+    }
+}
+
+fn check_ends(cell: &Cell, tool: &Tool, plain: &Plain) {
     let used = tool.record[USED];
     let table = Table::read(&tool.table, used, cell.letters).expect("the table is sound");
     let function = |at: usize| table.function(tool.record[at]).expect("an entry");
@@ -45,8 +60,8 @@ fn check(cell: &Cell, tool: &Tool, plain: &Plain) {
     let next: Vec<_> = nodes.map(|node| function(NEXT + node)).collect();
     let mut work = Work::new();
     for pattern in 0..1 << cell.letters {
-        let ended = plain.run::<true>(pattern, &mut work);
-        let walked = plain.run::<false>(pattern, &mut work);
+        let ended = plain.run::<true>(pattern, &mut work).expect(ANSWERED);
+        let walked = plain.run::<false>(pattern, &mut work).expect(ANSWERED);
         assert_eq!(ended.values, walked.values, "pattern {pattern}");
         for (node, (value, next)) in (FIRST_NODE..).zip(values.iter().zip(&next)) {
             let is = (ended.values >> node & 1, ended.next[node]);
@@ -71,9 +86,7 @@ fn line(Named { name, cell }: &Named) {
         answer = tool.run();
         start.elapsed()
     });
-    if answer == 0 {
-        check(cell, &tool, &plain);
-    }
+    check(cell, &tool, &plain, answer);
     let theirs = time_plain::<true>(&plain);
     let walked = time_plain::<false>(&plain);
     let ratio = |other: Duration| match answer {
