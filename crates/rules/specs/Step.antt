@@ -45,7 +45,7 @@ nextChange c time s ks n =
     never
     (inHorizon c (min (changeAt s n) (time + delayTo c s ks (target c s ks n) n)))
 
--- one step to T for one pattern: all of T happens, then the nodes of touched groups are reconsidered
+-- one step to T for one pattern: all of T happens, then the nodes that the change can reach are reconsidered
 unfoldable pub stepped : Circuit → ℕ → ℕ → State → State
 stepped c time p s =
     let after = arrived c time p s in
@@ -69,7 +69,7 @@ initial c p = record {
   changes = map (λ (n : ℕ). never) (nodeNumbers c);
 }
 
--- the start for one pattern: every group is touched, at time 0
+-- the start for one pattern: every inner node is reconsidered, at time 0
 unfoldable pub started : Circuit → ℕ → State
 started c p =
     let s = initial c p in
