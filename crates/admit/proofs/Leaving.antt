@@ -12,7 +12,7 @@ use Rattle.refusal.specs.declared.Refusal.{Refusal}
 use Rattle.refusal.specs.declared.Refusal.the-variants.{Ceiling}
 use Rattle.refusal.specs.declared.Reply.{Reply}
 use Rattle.refusal.specs.declared.Reply.the-variants.{Done, Refused}
-use Rattle.refusal.specs.Answer.{Answer, answered, check, replyOf}
+use Rattle.refusal.specs.Answer.{Answer, answered, check, refuses, replyOf}
 use Rattle.lists.specs.Tests.{below}
 use Rattle.lists.proofs.Cases.{bool-cases, true-false}
 use Rattle.lists.proofs.Padded.{padded-read}
@@ -38,7 +38,7 @@ use Rattle.record.specs.Numbers.{leastAmong}
 use Rattle.record.specs.Record.{runOf}
 use Rattle.record.proofs.Record.{run-of-record}
 use Rattle.moment.specs.Next.{NextAs}
-use Rattle.admit.specs.Reached.{refuses, Reached}
+use Rattle.admit.specs.Reached.{Reached}
 use Rattle.admit.specs.Judged.{crowding}
 use Rattle.admit.proofs.Admitting.{least-tells, sound-tells, answer-crowded, answer-exceeds, answer-fits}
 

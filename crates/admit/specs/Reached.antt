@@ -1,22 +1,16 @@
 -- What a start, a step or a run of steps leaves in lent columns, by its answer.
 use mathlib.Core.Path.{_≡_}
 use mathlib.Core.List.{List}
-use mathlib.Core.Bool.{Bool, true, false}
+use mathlib.Core.Bool.{false}
 use Prim.Native.Nat.{ℕ}
 use lib.ListN.{length}
 use Rattle.refusal.specs.declared.Reply.{Reply}
-use Rattle.refusal.specs.declared.Reply.the-variants.{Done, Refused}
-use Rattle.refusal.specs.Answer.{Answer, answered, replyOf}
+use Rattle.refusal.specs.Answer.{Answer, answered, refuses, replyOf}
 use Rattle.diagram.specs.Table.{Table}
 use Rattle.rules.specs.Run.{Moment}
 use Rattle.table.specs.Holds.{Holds, Kept}
 use Rattle.record.specs.declared.Run.{Run}
 use Rattle.record.specs.Record.{recordOf}
-
--- whether a reply is a refusal
-abbrev pub refuses : Reply → Bool
-refuses Done = false
-refuses (Refused why) = true
 
 -- the moment that it was answered with, in the columns and as a value
 pub record Left (answer : Answer Moment) (l w h ix : List ℕ) (r : Run) : Type 0 where

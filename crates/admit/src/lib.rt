@@ -19,6 +19,7 @@ ghost use lib.ListN.{length};
 ghost use Rattle.diagram.specs.Held.{held};
 ghost use Rattle.refusal.specs.declared.Refusal.the-variants.{Ceiling};
 ghost use Rattle.refusal.specs.declared.Reply.the-variants.{Done, Refused};
+ghost use Rattle.refusal.specs.Answer.{refuses};
 ghost use Rattle.table.specs.Holds.{Lent};
 ghost use Rattle.functions.specs.Open.{Legible, Open};
 ghost use Rattle.rules.specs.Run.{startAnswer, stepAnswer, timeAfter, runSound};
@@ -27,23 +28,13 @@ ghost use Rattle.record.specs.Moments.{momentHeld};
 ghost use Rattle.record.specs.Leasts.{Leasts};
 ghost use Rattle.net.specs.Net.{lettersPlace, at as atPlace, netCircuit};
 ghost use Rattle.net.specs.Laid.{Laid};
-ghost use Rattle.admit.specs.Reached.{refuses as refusesOf, Reached};
+ghost use Rattle.admit.specs.Reached.{Reached};
 ghost use Rattle.admit.specs.Judged.{crowding, Judged, Judgeable};
 
 // The reply, and the run after a start or a step that was not refused.
 pub struct Next {
     pub reply: Reply,
     pub run: Run,
-}
-
-// Whether a reply is a refusal.
-pub fn refuses(reply: Reply) -> bool
-    ensures { λ r. ⌜ r ≡ refusesOf reply ⌝ }
-{
-    match reply {
-        Reply::Done => false,
-        Reply::Refused(_) => true,
-    }
 }
 
 // No run, where the table is full: 11 before 6.
@@ -151,7 +142,7 @@ pub fn step(
     requires { ⌜ Laid (netCircuit (now net)) (now net) × Open (atPlace (now net) lettersPlace) (now letter) (now low) (now high) (now index) (r .used) × Lent (now wletter) (now wlow) (now whigh) (now windex) × (length (now letter) ≤ length (now least)) ⌝ }
     requires { ⌜ (runSound (netCircuit (now net)) (held (now letter) (now low) (now high) (r .used)) (runOf (netCircuit (now net)) r) ≡ true) × (time ≡ timeAfter (netCircuit (now net)) (momentHeld (now letter) (now low) (now high) (runOf (netCircuit (now net)) r))) × Leasts (atPlace (now net) lettersPlace) (held (now letter) (now low) (now high) (r .used)) (r .used) (now least) ⌝ }
     ensures { λ x. ⌜ Reached (held (now (letter .entry)) (now (low .entry)) (now (high .entry)) (r .used)) (stepAnswer (netCircuit (now (net .entry))) (length (now (letter .entry))) (momentHeld (now (letter .entry)) (now (low .entry)) (now (high .entry)) (runOf (netCircuit (now (net .entry))) r))) (now (letter .exit)) (now (low .exit)) (now (high .exit)) (now (index .exit)) (x .reply) (x .run) ⌝ }
-    ensures { λ x. ⌜ (length (now (least .exit)) ≡ length (now (least .entry))) × (refusesOf (x .reply) ≡ false → Leasts (atPlace (now (net .entry)) lettersPlace) (held (now (letter .exit)) (now (low .exit)) (now (high .exit)) (x .run .used)) (x .run .used) (now (least .exit))) ⌝ }
+    ensures { λ x. ⌜ (length (now (least .exit)) ≡ length (now (least .entry))) × (refuses (x .reply) ≡ false → Leasts (atPlace (now (net .entry)) lettersPlace) (held (now (letter .exit)) (now (low .exit)) (now (high .exit)) (x .run .used)) (x .run .used) (now (least .exit))) ⌝ }
 {
     let next = moment::step(
         net,

@@ -12,7 +12,7 @@ use Rattle.refusal.specs.declared.Refusal.{Refusal}
 use Rattle.refusal.specs.declared.Refusal.the-variants.{Unsound, Finished}
 use Rattle.refusal.specs.declared.Reply.{Reply}
 use Rattle.refusal.specs.declared.Reply.the-variants.{Refused}
-use Rattle.refusal.specs.Answer.{Answer, refused, answered, check, replyOf}
+use Rattle.refusal.specs.Answer.{Answer, refused, answered, check, refuses, replyOf}
 use Rattle.lists.proofs.Cases.{bool-cases, and-right, true-false}
 use Rattle.format.specs.Circuit.{Circuit}
 use Rattle.diagram.specs.Table.{Table, never}
@@ -30,11 +30,11 @@ use Rattle.net.specs.Laid.{Laid}
 use Rattle.net.proofs.Laying.{letters-at}
 use Rattle.record.specs.declared.Run.{Run}
 use Rattle.record.specs.Record.{runOf}
-use Rattle.admit.specs.Reached.{refuses, Left, Reached}
+use Rattle.admit.specs.Reached.{Left, Reached}
 use Rattle.advance.specs.declared.Task.the-variants.{Start, Step, Until}
 use Rattle.advance.specs.Task.{taskCall}
 use Rattle.advance.specs.Went.{WentAs}
-use Rattle.advance.specs.Reached.{Together, Closed}
+use Rattle.advance.specs.Parts.{Together, Closed}
 
 -- a reply that refuses is that of an answer that does
 pub refusing : (a : Answer Moment) {reply : Reply} → reply ≡ replyOf a → refuses reply ≡ true → (why : Refusal) × (a ≡ refused why)

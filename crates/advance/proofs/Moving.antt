@@ -10,7 +10,7 @@ use lib.Dec.{leb, eqb}
 use borrow.Author.Tests.{leb-true, leb-false, eqb-false, ne-eqb, not-true}
 use Rattle.refusal.specs.declared.Reply.{Reply}
 use Rattle.refusal.specs.declared.Reply.the-variants.{Done}
-use Rattle.refusal.specs.Answer.{Answer, refused, answered, replyOf}
+use Rattle.refusal.specs.Answer.{Answer, refused, answered, refuses, replyOf}
 use Rattle.lists.proofs.Cases.{eq-or-ne, and-left, and-right, true-false}
 use Rattle.format.specs.Circuit.{Circuit}
 use Rattle.diagram.specs.Table.{never}
@@ -36,7 +36,7 @@ use Rattle.record.specs.declared.Run.{Run}
 use Rattle.record.specs.Record.{runOf, recordOf}
 use Rattle.record.specs.Leasts.{Leasts}
 use Rattle.record.proofs.Record.{run-of-record}
-use Rattle.admit.specs.Reached.{refuses, Left, Reached}
+use Rattle.admit.specs.Reached.{Left, Reached}
 use Rattle.advance.proofs.Ends.{refusing}
 
 -- the moment that columns and a run hold

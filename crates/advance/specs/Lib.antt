@@ -1,3 +1,3 @@
 pub mod Task
 pub mod Went
-pub mod Reached
+pub mod Parts

@@ -1,14 +1,14 @@
 // The end of a task.
 use crate::Went;
 use admit::Next;
-use admit::refuses;
 use record::Run;
 use refusal::Refusal;
 use refusal::Reply;
+use refusal::refuses;
 use table::clear;
 ghost use mathlib.Core.Path.{_≡_};
 ghost use Rattle.refusal.specs.declared.Reply.the-variants.{Refused};
-ghost use Rattle.advance.specs.Reached.{Closed};
+ghost use Rattle.advance.specs.Parts.{Closed};
 
 pub fn refused(why: Refusal, r: Run) -> Went
     ensures { λ x. ⌜ (x .reply ≡ Refused why) × (x .run ≡ r) ⌝ }

@@ -27,7 +27,7 @@ ghost use Rattle.net.specs.Net.{netCircuit};
 ghost use Rattle.net.specs.Laid.{Laid};
 ghost use Rattle.advance.specs.declared.Task.the-variants.{Start, Step, Until};
 ghost use Rattle.advance.specs.Task.{taskCall};
-ghost use Rattle.advance.specs.Reached.{Together};
+ghost use Rattle.advance.specs.Parts.{Together};
 ghost use Rattle.advance.specs.Went.{WentAs};
 
 // What is to be done: a start in a table with so many entries used, a step, or every step not later than a time.

@@ -1,11 +1,11 @@
 // Every step not later than a time.
 use admit::Next;
-use admit::refuses;
 use admit::step;
 use functions::numbers::NEVER;
 use record::Run;
 use record::time_after;
 use refusal::Reply;
+use refusal::refuses;
 ghost use mathlib.Core.Path.{_≡_};
 ghost use mathlib.Core.Bool.{true};
 ghost use Prim.Native.Nat.{_≤_};

@@ -5,7 +5,7 @@ use Prim.Native.Nat.{ℕ, _≤_}
 use native.Mathlib.Omega.{arith}
 use lib.ListN.{length}
 use Rattle.refusal.specs.declared.Refusal.the-variants.{Buffer, Ceiling}
-use Rattle.refusal.specs.Answer.{Answer, refused, answered, check, answerNumber}
+use Rattle.refusal.specs.Answer.{Answer, answered, check, answerNumber}
 use Rattle.refusal.proofs.Answer.{check-passed}
 use Rattle.format.specs.Circuit.{Circuit}
 use Rattle.diagram.specs.Store.{stored, fresh}

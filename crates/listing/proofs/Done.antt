@@ -1,14 +1,13 @@
 -- What a call left and what was written of it, as the definitions have it.
-use mathlib.Core.Path.{_≡_, refl, sym, _∙_, ap, subst}
+use mathlib.Core.Path.{_≡_, refl, sym, _∙_, ap}
 use mathlib.Core.List.{List, []}
-use mathlib.Core.Bool.{Bool, true, false}
+use mathlib.Core.Bool.{Bool, true, false, not}
 use Prim.Native.Nat.{ℕ, _+_, _≤_}
 use native.Mathlib.Omega.{arith}
 use lib.ListN.{length}
-use Rattle.refusal.specs.declared.Refusal.{Refusal}
 use Rattle.refusal.specs.declared.Reply.{Reply}
-use Rattle.refusal.specs.declared.Reply.the-variants.{Done, Refused}
-use Rattle.refusal.specs.Answer.{Answer, refused, answered, replyOf}
+use Rattle.refusal.specs.declared.Reply.the-variants.{Done}
+use Rattle.refusal.specs.Answer.{Answer, refused, answered, refuses, replyOf}
 use Rattle.format.specs.declared.Header.{Header}
 use Rattle.format.specs.Circuit.{Circuit, headerOf}
 use Rattle.diagram.specs.Call.{columns, Columns}
@@ -20,7 +19,7 @@ use Rattle.advance.specs.Went.{runAfter, tableAfter}
 use Rattle.run.specs.Done.{DoneAs}
 use Rattle.lines.specs.Listing.{stopLine, startedLines, steppedLines}
 use Rattle.lines.specs.Lines.{callRoom, Put, nodeLines, Entries, byReply}
-use Rattle.listing.specs.Listed.{isDone, ListedAs}
+use Rattle.listing.specs.Listed.{ListedAs}
 use Rattle.listing.proofs.Holding.{Holding, held-entries, held-start, held-step}
 
 -- by the answer
@@ -46,7 +45,7 @@ module _ {c : Circuit} {h : Header} (same : headerOf c ≡ h) {table working wor
   pub done-entries : reply ≡ Done → Entries (h .letters) (h .nodes) l w v (r′ .used) (r′ .values)
   done-entries e = entries-by same table r answer holds (d .run-is) (d .table-is) (sym (d .reply-is) ∙ e)
 
-  module _ {out out′ : List ℕ} {at end : ℕ} {more : Bool} (room : at + callRoom ≤ length out) (m : more ≡ isDone reply) where
+  module _ {out out′ : List ℕ} {at end : ℕ} {more : Bool} (room : at + callRoom ≤ length out) (m : more ≡ not (refuses reply)) where
     listed : {bytes : List ℕ} (lines : Answer Moment → List ℕ) → Put out out′ at bytes callRoom end → bytes ≡ lines answer
         → ListedAs table (columns l w v) working working′ r answer lines out out′ at end r′ more
     listed lines p e = record {
@@ -55,7 +54,7 @@ module _ {c : Circuit} {h : Header} (same : headerOf c ≡ h) {table working wor
       working-is = d .working-is;
       wrote = rw e at (p .wrote);
       within = omega (arith, p .within);
-      more-is = m ∙ ap isDone (d .reply-is);
+      more-is = m ∙ ap (λ (x : Reply). not (refuses x)) (d .reply-is);
     }
 
     -- a start

@@ -1,22 +1,15 @@
 -- What a call that starts or steps a run leaves beside the lines that it lists.
 use mathlib.Core.Path.{_≡_}
 use mathlib.Core.List.{List}
-use mathlib.Core.Bool.{Bool, true, false}
+use mathlib.Core.Bool.{Bool, not}
 use Prim.Native.Nat.{ℕ, _≤_}
 use lib.ListN.{length}
-use Rattle.refusal.specs.declared.Reply.{Reply}
-use Rattle.refusal.specs.declared.Reply.the-variants.{Done, Refused}
-use Rattle.refusal.specs.Answer.{Answer, replyOf}
+use Rattle.refusal.specs.Answer.{Answer, refuses, replyOf}
 use Rattle.diagram.specs.Call.{Columns}
 use Rattle.rules.specs.Run.{Moment}
 use Rattle.record.specs.declared.Run.{Run}
 use Rattle.advance.specs.Went.{runAfter, tableAfter, workingAfter}
 use Rattle.text.specs.Written.{Wrote}
-
--- whether something may follow
-abbrev pub isDone : Reply → Bool
-isDone Done = true
-isDone (Refused why) = false
 
 -- the table and working before and after, the record before, the answer and its lines, the buffer before and after, where the lines were
 -- to begin; where they end, the record afterwards, and whether there is more
@@ -27,4 +20,4 @@ pub record ListedAs (table table′ working working′ : Columns) (r : Run) (ans
   pub working-is : working′ ≡ workingAfter working answer
   pub wrote : Wrote out out′ at (lines answer) end
   pub within : end ≤ length out
-  pub more-is : more ≡ isDone (replyOf answer)
+  pub more-is : more ≡ not (refuses (replyOf answer))

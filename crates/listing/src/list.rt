@@ -4,7 +4,7 @@ use cell::Cell;
 use lines::put_started;
 use lines::put_stepped;
 use record::Run;
-use refusal::Reply;
+use refusal::refuses;
 use run::go::on_cell;
 ghost use mathlib.Core.Path.{_≡_};
 ghost use Prim.Native.Nat.{_+_, _≤_};
@@ -17,7 +17,7 @@ ghost use Rattle.advance.specs.Task.{taskCall};
 ghost use Rattle.lines.specs.Listing.{startedLines, steppedLines};
 ghost use Rattle.lines.specs.Lines.{callRoom};
 ghost use Rattle.listing.specs.Printed.{noRun};
-ghost use Rattle.listing.specs.Listed.{isDone, ListedAs};
+ghost use Rattle.listing.specs.Listed.{ListedAs};
 
 // Where the lines end, the run afterwards, and whether there is more: a refused call is the last.
 pub struct Listed {
@@ -34,15 +34,6 @@ fn no_run() -> Run
         used: 0,
         values: [0u32; 24],
         changes: [0u32; 24],
-    }
-}
-
-fn is_done(reply: Reply) -> bool
-    ensures { λ x. ⌜ x ≡ isDone reply ⌝ }
-{
-    match reply {
-        Reply::Done => true,
-        Reply::Refused(_) => false,
     }
 }
 
@@ -77,7 +68,7 @@ pub fn list_start(
     let reply = went.reply;
     let run = went.run;
     let end = put_started(out, at, letter, low, high, cell.header, reply, run);
-    let more = is_done(reply);
+    let more = !refuses(reply);
     Listed { end, run, more }
 }
 
@@ -113,6 +104,6 @@ pub fn list_step(
         r,
         steps,
     );
-    let more = is_done(reply);
+    let more = !refuses(reply);
     Listed { end, run, more }
 }

@@ -20,6 +20,11 @@ abbrev pub answerNumber : {A : Type 0} → Answer A → ℕ
 answerNumber (refused why) = refusalNumber why
 answerNumber (answered a) = 0
 
+-- whether a reply is a refusal
+abbrev pub refuses : Reply → Bool
+refuses Done = false
+refuses (Refused why) = true
+
 -- the same answer without its value
 abbrev pub replyOf : {A : Type 0} → Answer A → Reply
 replyOf (refused why) = Refused why

@@ -3,6 +3,7 @@
 // Knows nothing of cells, tables or runs.
 ghost use mathlib.Core.Path.{_≡_};
 ghost use Rattle.refusal.specs.Number.{refusalNumber, replyNumber};
+ghost use Rattle.refusal.specs.Answer.{refuses as refusesOf};
 
 // The conditions of document 01's table "Numbers given to the editor", by its trade words, and document 02's.
 pub enum Refusal {
@@ -49,5 +50,15 @@ pub fn reply_number(reply: Reply) -> u32
     match reply {
         Reply::Done => 0,
         Reply::Refused(why) => refusal_number(why),
+    }
+}
+
+// Whether a reply is a refusal.
+pub fn refuses(reply: Reply) -> bool
+    ensures { λ r. ⌜ r ≡ refusesOf reply ⌝ }
+{
+    match reply {
+        Reply::Done => false,
+        Reply::Refused(_) => true,
     }
 }

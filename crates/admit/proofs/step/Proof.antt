@@ -2,7 +2,7 @@
 use mathlib.Core.Path.{refl, sym, _∙_, ap}
 use native.Mathlib.Omega.{arith}
 use Rattle.lists.proofs.Cases.{true-false}
-use Rattle.admit.specs.Reached.{refuses}
+use Rattle.refusal.specs.Answer.{refuses}
 use Rattle.admit.proofs.Whole.{still-legible, still-sound, still-time, still-within, step-crowded, step-legible, step-judgeable, step-reached, step-leasts}
 use borrow.Author.Needs.{needs}
 use Rattle.admit.proofs.step.Statement.{statement}

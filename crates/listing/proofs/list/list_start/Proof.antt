@@ -1,9 +1,9 @@
 -- `list_start` meets its contract: what the call leaves can be read, and what is written of it is what the definitions list. Assumes nothing.
-use Rattle.format.specs.Legal.{checkCircuit}
+use mathlib.Core.Path.{ap}
+use mathlib.Core.Bool.{not}
 use Rattle.diagram.specs.Call.{columns}
 use Rattle.cell.specs.Value.{circuitOf}
 use Rattle.cell.proofs.Check.{header-kept}
-use Rattle.advance.specs.Task.{runIn}
 use Rattle.listing.proofs.Holding.{start-holds}
 use Rattle.listing.proofs.Done.{done-entries, listed-start}
 use Rattle.listing.proofs.list.list_start.Statement.{statement}
@@ -20,8 +20,8 @@ put-started-requires c κs =
     let s = c .before .before .before .before .before .before .before .before .before .before .before .before .before .before .before .before .before .before .before .before .before .before .before .before .before .before .before .before .before .before .before .before in
     (done-entries (header-kept (s .args .cell)) (λ m e. start-holds (circuitOf (s .args .cell)) (columns (s .args .letter .now) (s .args .low .now) (s .args .high .now)) (columns (s .args .wletter .now) (s .args .wlow .now) (s .args .whigh .now)) (s .args .used) m e) (rw (c .before .before .before .before .before .before .before .before .before .before .before .before .before .before .before .before .before .before .before .before .before .before .before .before .no-run .ensures) at (c .before .before .before .before .before .before .before .before .before .before .before .before .before .before .before .before .before .on-cell .ensures)), s .pre)
 
-is-done-requires : tie.Need-is-done-requires
-is-done-requires c κs = tt
+refuses-requires : tie.Need-refuses-requires
+refuses-requires c κs = tt
 
 same-length : tie.Need-same-length
 same-length c = c .before .before .before .before .before .before .before .before .before .before .before .before .before .before .before .before .before .before .before .before .before .on-cell .kept .1 .1 .0
@@ -47,7 +47,7 @@ same-length-7 c = c .before .before .before .put-started .kept .0
 returns : tie.Need-returns
 returns c =
     let s = c .before .before .before .before .before .before .before .before .before .before .before .before .before .before .before .before .before .before .before .before .before .before .before .before .before .before .before .before .before .before .before .before .before .before .before .before in
-    listed-start (header-kept (s .args .cell)) (λ m e. start-holds (circuitOf (s .args .cell)) (columns (s .args .letter .now) (s .args .low .now) (s .args .high .now)) (columns (s .args .wletter .now) (s .args .wlow .now) (s .args .whigh .now)) (s .args .used) m e) (rw (c .before .before .before .before .before .before .before .before .before .before .before .before .before .before .before .before .before .before .before .before .before .before .before .before .before .before .before .before .no-run .ensures) at (c .before .before .before .before .before .before .before .before .before .before .before .before .before .before .before .before .before .before .before .before .before .on-cell .ensures)) (s .pre) (c .is-done .ensures) (c .before .before .before .put-started .ensures)
+    listed-start (header-kept (s .args .cell)) (λ m e. start-holds (circuitOf (s .args .cell)) (columns (s .args .letter .now) (s .args .low .now) (s .args .high .now)) (columns (s .args .wletter .now) (s .args .wlow .now) (s .args .whigh .now)) (s .args .used) m e) (rw (c .before .before .before .before .before .before .before .before .before .before .before .before .before .before .before .before .before .before .before .before .before .before .before .before .before .before .before .before .no-run .ensures) at (c .before .before .before .before .before .before .before .before .before .before .before .before .before .before .before .before .before .before .before .before .before .on-cell .ensures)) (s .pre) (ap not (c .refuses .ensures)) (c .before .before .before .put-started .ensures)
 
 pub list-start-spec : {M : Type 1} → statement M
 list-start-spec =
@@ -56,7 +56,7 @@ list-start-spec =
     no-run-requires
     on-cell-requires
     put-started-requires
-    is-done-requires
+    refuses-requires
     same-length
     same-length-2
     same-length-3

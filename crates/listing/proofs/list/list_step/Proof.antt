@@ -1,4 +1,6 @@
 -- `list_step` meets its contract: what the call leaves can be read, and what is written of it is what the definitions list. Assumes nothing.
+use mathlib.Core.Path.{ap}
+use mathlib.Core.Bool.{not}
 use Rattle.format.specs.Legal.{checkCircuit}
 use Rattle.diagram.specs.Call.{columns}
 use Rattle.cell.specs.Value.{circuitOf}
@@ -17,8 +19,8 @@ put-stepped-requires c κs =
     let s = c .before .before .before .before .before .before .before .before .before .before .before .before .before .before .before .before .before .before .before .before .before .before .before .before .before .before .before .before .before .before .before in
     (done-entries (header-kept (s .args .cell)) (λ m e. step-holds (circuitOf (s .args .cell)) (columns (s .args .letter .now) (s .args .low .now) (s .args .high .now)) (columns (s .args .wletter .now) (s .args .wlow .now) (s .args .whigh .now)) (runIn (checkCircuit (circuitOf (s .args .cell))) (s .args .r)) m e) (c .before .before .before .before .before .before .before .before .before .before .before .before .before .before .before .before .before .on-cell .ensures), s .pre)
 
-is-done-requires : tie.Need-is-done-requires
-is-done-requires c κs = tt
+refuses-requires : tie.Need-refuses-requires
+refuses-requires c κs = tt
 
 same-length : tie.Need-same-length
 same-length c = c .before .before .before .before .before .before .before .before .before .before .before .before .before .before .before .before .before .before .before .before .before .on-cell .kept .1 .1 .0
@@ -44,7 +46,7 @@ same-length-7 c = c .before .before .before .put-stepped .kept .0
 returns : tie.Need-returns
 returns c =
     let s = c .before .before .before .before .before .before .before .before .before .before .before .before .before .before .before .before .before .before .before .before .before .before .before .before .before .before .before .before .before .before .before .before .before .before .before in
-    listed-step (header-kept (s .args .cell)) (λ m e. step-holds (circuitOf (s .args .cell)) (columns (s .args .letter .now) (s .args .low .now) (s .args .high .now)) (columns (s .args .wletter .now) (s .args .wlow .now) (s .args .whigh .now)) (runIn (checkCircuit (circuitOf (s .args .cell))) (s .args .r)) m e) (c .before .before .before .before .before .before .before .before .before .before .before .before .before .before .before .before .before .before .before .before .before .on-cell .ensures) (s .pre) (c .is-done .ensures) (s .args .r .time) (s .args .steps) (s .args .r .values) (c .before .before .before .put-stepped .ensures)
+    listed-step (header-kept (s .args .cell)) (λ m e. step-holds (circuitOf (s .args .cell)) (columns (s .args .letter .now) (s .args .low .now) (s .args .high .now)) (columns (s .args .wletter .now) (s .args .wlow .now) (s .args .whigh .now)) (runIn (checkCircuit (circuitOf (s .args .cell))) (s .args .r)) m e) (c .before .before .before .before .before .before .before .before .before .before .before .before .before .before .before .before .before .before .before .before .before .on-cell .ensures) (s .pre) (ap not (c .refuses .ensures)) (s .args .r .time) (s .args .steps) (s .args .r .values) (c .before .before .before .put-stepped .ensures)
 
 pub list-step-spec : {M : Type 1} → statement M
 list-step-spec =
@@ -52,7 +54,7 @@ list-step-spec =
     (tie.spec
     on-cell-requires
     put-stepped-requires
-    is-done-requires
+    refuses-requires
     same-length
     same-length-2
     same-length-3

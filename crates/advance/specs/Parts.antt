@@ -4,6 +4,7 @@ use mathlib.Core.List.{List}
 use mathlib.Core.Bool.{Bool, true, false}
 use Prim.Native.Nat.{ℕ}
 use Rattle.refusal.specs.declared.Reply.{Reply}
+use Rattle.refusal.specs.Answer.{refuses}
 use Rattle.diagram.specs.Call.{columns}
 use Rattle.rules.specs.Call.{soundTogether}
 use Rattle.table.specs.Holds.{zeroFrom}
@@ -11,7 +12,6 @@ use Rattle.functions.specs.Open.{Open}
 use Rattle.net.specs.Net.{lettersPlace, at, netCircuit}
 use Rattle.record.specs.declared.Run.{Run}
 use Rattle.record.specs.Record.{runOf}
-use Rattle.admit.specs.Reached.{refuses}
 
 -- whether run and table are sound together; where they are, the columns are open to storing
 pub record Together (net l w h ix : List ℕ) (r : Run) (x : Bool) : Type 0 where
