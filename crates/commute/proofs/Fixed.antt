@@ -1,35 +1,34 @@
 -- Fixing letters in a cell and running it for a pattern is running the cell for the pattern with those letters fixed.
 use mathlib.Core.Path.{_≡_, refl, sym, _∙_, ap, ap₂, fun-ext}
 use mathlib.Core.Logic.{⊎-elim}
-use mathlib.Core.Bool.{Bool, not, _&&_, _||_, cond}
+use mathlib.Core.Bool.{Bool, _&&_, _||_, cond}
 use mathlib.Core.List.{List, [], _∷_, map, map-map}
 use mathlib.Core.Option.{Option, some, none}
 use Prim.Native.Nat.{ℕ, zero, suc, _+_, _-_, _*_, _%_, _≤_, _<_, min}
 use native.Mathlib.Omega.{arith}
 use lib.ListN.{length, getD, length-map}
-use lib.Dec.{ltb, leb, eqb}
+use lib.Dec.{leb, eqb}
 use Rattle.lists.proofs.Cases.{lt-or-ge, eq-or-ne}
 use Rattle.refusal.specs.Answer.{answered}
 use Rattle.units.specs.declared.Picoseconds.{Picoseconds}
 use Rattle.units.specs.declared.Femtofarads.{Femtofarads}
 use Rattle.units.specs.Rules as units
 use Rattle.format.specs.declared.Node.{Node}
-use Rattle.format.specs.declared.Transistor.{Transistor}
 use Rattle.format.specs.declared.Entry.{Entry}
 use Rattle.format.specs.Circuit.{Circuit, noEntry, nodeRecord}
 use Rattle.format.specs.Source.{letterOf}
-use Rattle.format.specs.Legal.{isInput, checkCircuit}
+use Rattle.format.specs.Legal.{checkCircuit}
 use Rattle.format.specs.Fixing.{Setting, free, low, high, Fixing, setSource, fixedSource, fixedNode, fixedEntry, fixed}
 use Rattle.format.proofs.Legal.{legal-node, legal-entry}
 use Rattle.format.proofs.Fixing.{fixed-constant, fixed-letter, fixed-node-record}
 use Rattle.diagram.specs.Pattern.{patterns, letterAt}
 use Rattle.diagram.specs.Table.{never}
 use Rattle.diagram.proofs.Pattern.{with-lt, with-same, with-other}
-use Rattle.rules.specs.State.{State, valueAt, changeAt, upFrom, nodeNumbers, isDriven, isInner}
-use Rattle.rules.specs.Arrive.{sourceAt, scheduled, flips, arrivedValue, arrivedChange, arrived, changed}
-use Rattle.rules.specs.Label.{Labels, joined, join, betweenInner, linkFrom, inPiece, ofPiece, some as someOf, only}
-use Rattle.rules.specs.Reach.{conductsAround, reach, disturbed, touched, reconsidered}
-use Rattle.rules.specs.Kept.{Channel, conducts, keeps, afterKept, keptFrom, kept}
+use Rattle.rules.specs.State.{State, valueAt, changeAt, nodeNumbers, isInner}
+use Rattle.rules.specs.Arrive.{sourceAt, scheduled, flips, arrivedValue, arrivedChange, arrived}
+use Rattle.rules.specs.Label.{some as someOf}
+use Rattle.rules.specs.Reach.{reconsidered}
+use Rattle.rules.specs.Kept.{Channel, kept}
 use Rattle.rules.specs.Sum.{Sum, leads, farEnd, overArms, drivenSum, ownSum, armOf, joinSums, nodeSum, undriven, newValue}
 use Rattle.rules.specs.Delay.{Load, drivenLoad, ownLoad, loadArm, joinLoads, nodeLoad, inOhms}
 use Rattle.rules.specs.Step.{target, exceeds, delayBy, delayTo, inHorizon, nextChange, stepped, stepExceeds, initial, started, startExceeds}
@@ -37,6 +36,7 @@ use Rattle.rules.specs.Run.{soonest, patternTime}
 use Rattle.rules.proofs.State.{Numbered, numbers-same}
 use Rattle.rules.proofs.Arrive.{source-constant, source-letter, some-same, steppedChange, steppedFrom, stepped-from}
 use Rattle.rules.proofs.Step.{startedChange, startedFrom, started-from}
+use Rattle.rules.proofs.Wiring.{Wired, numbers-alike, driven-alike, inner-alike, reconsidered-alike, kept-alike}
 use Rattle.commute.specs.Demand.{setLetter, fixedPattern}
 
 -- what a setting makes of a letter
@@ -117,11 +117,9 @@ source-fixed φ letters s q h =
 
 -- two cells that differ in their sources only
 pub record Alike (c d : Circuit) : Type 0 where
+  pub wired : Wired c d
   pub horizon-same : c .horizon ≡ d .horizon
-  pub count-same : length (c .nodes) ≡ length (d .nodes)
-  pub input-same : (n : ℕ) → isInput c n ≡ isInput d n
   pub capacitance-same : (n : ℕ) → nodeRecord c n .capacitance ≡ nodeRecord d n .capacitance
-  pub transistors-same : c .transistors ≡ d .transistors
 
 -- sums over arms that agree are equal
 over-same : {A : Type 0} (test : Channel → Bool) {f g : A → Channel → A} {own other : A} (ks : List Channel) → ((a : A) (k : Channel) → f a k ≡ g a k) → own ≡ other
@@ -129,91 +127,13 @@ over-same : {A : Type 0} (test : Channel → Bool) {f g : A → Channel → A} {
 over-same {A} test ks h e = ap₂ (λ (join : A → Channel → A) (a : A). overArms test join a ks) (fun-ext (λ a. fun-ext (λ k. h a k))) e
 
 module _ {c d : Circuit} (e : Alike c d) where
-  -- the same node numbers
-  pub numbers-alike : nodeNumbers c ≡ nodeNumbers d
-  numbers-alike = ap (λ (n : ℕ). upFrom n 2) (e .count-same)
-
-  -- the same driven ends
-  pub driven-alike : (n : ℕ) → isDriven c n ≡ isDriven d n
-  driven-alike n = ap (λ (b : Bool). ltb n 2 || b) (e .input-same n)
-
-  -- the same inner nodes
-  pub inner-alike : (n : ℕ) → isInner c n ≡ isInner d n
-  inner-alike n = ap not (driven-alike n)
-
-  -- the same channels between inner nodes
-  pub between-alike : (t : Transistor) → betweenInner c t ≡ betweenInner d t
-  between-alike t = ap₂ _&&_ (inner-alike (t .first)) (inner-alike (t .second))
-
-  link-alike : (ls : Labels) (ts : List Transistor) → linkFrom c ls ts ≡ linkFrom d ls ts
-  unfolding linkFrom
-  link-alike ls [] = refl
-  link-alike ls (t ∷ ts) =
-      link-alike (cond (betweenInner c t) (join ls (t .first) (t .second)) ls) ts
-      ∙ ap (λ (b : Bool). linkFrom d (cond b (join ls (t .first) (t .second)) ls) ts) (between-alike t)
-
-  -- the same nodes are reached
-  pub reach-alike : (before after : State) → reach c before after ≡ reach d before after
-  unfolding reach
-  reach-alike before after =
-      link-alike (nodeNumbers c) (only (conductsAround before after) (c .transistors))
-      ∙ ap₂ (λ (ls : Labels) (ts : List Transistor). linkFrom d ls (only (conductsAround before after) ts)) numbers-alike (e .transistors-same)
-
-  in-alike : (ls : Labels) (n m : ℕ) → inPiece c ls n m ≡ inPiece d ls n m
-  in-alike ls n m = ap (λ (b : Bool). b && joined ls n m) (inner-alike m)
-
-  -- the same transistors of a piece
-  of-alike : (ls : Labels) (n : ℕ) (t : Transistor) → ofPiece c ls n t ≡ ofPiece d ls n t
-  of-alike ls n t = ap₂ _||_ (in-alike ls n (t .first)) (in-alike ls n (t .second))
-
-  -- the same transistors are disturbed
-  pub disturbed-alike : (before after : State) (t : Transistor) → disturbed c before after t ≡ disturbed d before after t
-  disturbed-alike before after t =
-      ap₂ (λ (a b : Bool). changed before after (t .gate) || (a && changed before after (t .first)) || (b && changed before after (t .second)))
-      (e .input-same (t .first)) (e .input-same (t .second))
-
-  -- the same pieces are touched
-  touched-alike : (ls : Labels) (before after : State) (n : ℕ) → touched c ls before after n ≡ touched d ls before after n
-  unfolding touched
-  touched-alike ls before after n =
-      some-same _ (λ (t : Transistor). ofPiece d ls n t && disturbed d before after t) (c .transistors)
-      (λ t m. ap₂ _&&_ (of-alike ls n t) (disturbed-alike before after t))
-      ∙ ap (someOf (λ (t : Transistor). ofPiece d ls n t && disturbed d before after t)) (e .transistors-same)
-
-  -- the same nodes are reconsidered
-  pub reconsidered-alike : (before after : State) (n : ℕ) → reconsidered c before after n ≡ reconsidered d before after n
-  reconsidered-alike before after n =
-      ap₂ _&&_ (inner-alike n)
-      (touched-alike (reach c before after) before after n ∙ ap (λ (ls : Labels). touched d ls before after n) (reach-alike before after))
-
-  keeps-alike : (s : State) (ls : Labels) (t : Transistor) → keeps c s ls t ≡ keeps d s ls t
-  keeps-alike s ls t = ap (λ (b : Bool). conducts s t && not (b && joined ls (t .first) (t .second))) (between-alike t)
-
-  after-alike : (s : State) (ls : Labels) (t : Transistor) → afterKept c s ls t ≡ afterKept d s ls t
-  after-alike s ls t =
-      ap₂ (λ (a b : Bool). cond (a && b) (join ls (t .first) (t .second)) ls) (keeps-alike s ls t) (between-alike t)
-
-  kept-from-alike : (s : State) (ls : Labels) (i : ℕ) (ts : List Transistor) → keptFrom c s ls i ts ≡ keptFrom d s ls i ts
-  unfolding keptFrom
-  kept-from-alike s ls i [] = refl
-  kept-from-alike s ls i (t ∷ ts) =
-      ap₂ (λ (b : Bool) (ks : List Channel). cond b (record { number = i; transistor = t } ∷ ks) ks) (keeps-alike s ls t)
-      (kept-from-alike s (afterKept c s ls t) (suc i) ts ∙ ap (λ (l : Labels). keptFrom d s l (suc i) ts) (after-alike s ls t))
-
-  -- the same transistors are kept
-  pub kept-alike : (s : State) → kept c s ≡ kept d s
-  unfolding kept
-  kept-alike s =
-      kept-from-alike s (nodeNumbers c) 0 (c .transistors)
-      ∙ ap₂ (λ (ls : Labels) (ts : List Transistor). keptFrom d s ls 0 ts) numbers-alike (e .transistors-same)
-
   -- the same node sums
   pub sum-alike : (allowance : ℕ) (s : State) (ks : List Channel) (from : Option ℕ) (n : ℕ) → nodeSum allowance c s ks from n ≡ nodeSum allowance d s ks from n
   unfolding nodeSum
   sum-alike zero s ks from n =
-      ap₂ (λ (b : Bool) (f : Femtofarads). cond b (drivenSum (valueAt s n)) (ownSum f (valueAt s n))) (driven-alike n) (e .capacitance-same n)
+      ap₂ (λ (b : Bool) (f : Femtofarads). cond b (drivenSum (valueAt s n)) (ownSum f (valueAt s n))) (driven-alike (e .wired) n) (e .capacitance-same n)
   sum-alike (suc allowance) s ks from n =
-      ap₂ (λ (b : Bool) (sum : Sum). cond b (drivenSum (valueAt s n)) sum) (driven-alike n)
+      ap₂ (λ (b : Bool) (sum : Sum). cond b (drivenSum (valueAt s n)) sum) (driven-alike (e .wired) n)
       (over-same (leads from n) ks
       (λ sum k. ap (λ (far : Sum). joinSums sum (armOf (k .transistor) far)) (sum-alike allowance s ks (some (k .number)) (farEnd n k)))
       (ap (λ (f : Femtofarads). ownSum f (valueAt s n)) (e .capacitance-same n)))
@@ -222,15 +142,15 @@ module _ {c d : Circuit} (e : Alike c d) where
   pub load-alike : (allowance : ℕ) (sharing : Bool) (new : ℕ) (s : State) (ks : List Channel) (from : Option ℕ) (n : ℕ) → nodeLoad allowance sharing new c s ks from n ≡ nodeLoad allowance sharing new d s ks from n
   unfolding nodeLoad
   load-alike zero sharing new s ks from n =
-      ap₂ (λ (b : Bool) (f : Femtofarads). cond (b || (sharing && eqb (valueAt s n) new)) (drivenLoad new (valueAt s n)) (ownLoad new f (valueAt s n))) (driven-alike n) (e .capacitance-same n)
+      ap₂ (λ (b : Bool) (f : Femtofarads). cond (b || (sharing && eqb (valueAt s n) new)) (drivenLoad new (valueAt s n)) (ownLoad new f (valueAt s n))) (driven-alike (e .wired) n) (e .capacitance-same n)
   load-alike (suc allowance) sharing new s ks from n =
-      ap₂ (λ (b : Bool) (load : Load). cond (b || (sharing && eqb (valueAt s n) new)) (drivenLoad new (valueAt s n)) load) (driven-alike n)
+      ap₂ (λ (b : Bool) (load : Load). cond (b || (sharing && eqb (valueAt s n) new)) (drivenLoad new (valueAt s n)) load) (driven-alike (e .wired) n)
       (over-same (leads from n) ks
       (λ load k. ap (λ (far : Load). joinLoads load (loadArm (k .transistor) far)) (load-alike allowance sharing new s ks (some (k .number)) (farEnd n k)))
       (ap (λ (f : Femtofarads). ownLoad new f (valueAt s n)) (e .capacitance-same n)))
 
   sum-here : (s : State) (ks : List Channel) (n : ℕ) → nodeSum (length (c .nodes)) c s ks none n ≡ nodeSum (length (d .nodes)) d s ks none n
-  sum-here s ks n = sum-alike (length (c .nodes)) s ks none n ∙ ap (λ (m : ℕ). nodeSum m d s ks none n) (e .count-same)
+  sum-here s ks n = sum-alike (length (c .nodes)) s ks none n ∙ ap (λ (m : ℕ). nodeSum m d s ks none n) (e .wired .count-same)
 
   -- the same new values
   pub target-alike : (s : State) (ks : List Channel) (n : ℕ) → target c s ks n ≡ target d s ks n
@@ -249,7 +169,7 @@ module _ {c d : Circuit} (e : Alike c d) where
       ap (λ (sum : Sum). delayBy c s ks (undriven sum) new n) (sum-here s ks n)
       ∙ ap (λ (load : Load). units.delay (inOhms (load .resistance)) (load .charge) .0)
       (load-alike (length (c .nodes)) (undriven (nodeSum (length (d .nodes)) d s ks none n)) new s ks none n
-      ∙ ap (λ (m : ℕ). nodeLoad m (undriven (nodeSum (length (d .nodes)) d s ks none n)) new d s ks none n) (e .count-same))
+      ∙ ap (λ (m : ℕ). nodeLoad m (undriven (nodeSum (length (d .nodes)) d s ks none n)) new d s ks none n) (e .wired .count-same))
 
   -- the same next changes
   pub next-alike : (time : ℕ) (s : State) (ks : List Channel) (n : ℕ) → nextChange c time s ks n ≡ nextChange d time s ks n
@@ -264,15 +184,15 @@ module _ {c d : Circuit} (e : Alike c d) where
       (inHorizon d (min (changeAt s n) (time + delay)))) (delay-alike s ks (target d s ks n) n)
 
   map-alike : (f g : ℕ → ℕ) → ((n : ℕ) → Numbered c n → f n ≡ g n) → map f (nodeNumbers c) ≡ map g (nodeNumbers d)
-  map-alike f g h = numbers-same c f g h ∙ ap (map g) numbers-alike
+  map-alike f g h = numbers-same c f g h ∙ ap (map g) (numbers-alike (e .wired))
 
   -- so one of the nodes that are looked at exceeds it in both or in neither
   some-exceeds-alike : (s : State) (test other : ℕ → Bool) → ((n : ℕ) → test n ≡ other n)
       → someOf (λ (n : ℕ). test n && exceeds c s (kept c s) n) (nodeNumbers c) ≡ someOf (λ (n : ℕ). other n && exceeds d s (kept d s) n) (nodeNumbers d)
   some-exceeds-alike s test other h =
       some-same _ (λ (n : ℕ). other n && exceeds d s (kept d s) n) (nodeNumbers c)
-      (λ n m. ap₂ _&&_ (h n) (exceeds-alike s (kept c s) n ∙ ap (λ (ks : List Channel). exceeds d s ks n) (kept-alike s)))
-      ∙ ap (someOf (λ (n : ℕ). other n && exceeds d s (kept d s) n)) numbers-alike
+      (λ n m. ap₂ _&&_ (h n) (exceeds-alike s (kept c s) n ∙ ap (λ (ks : List Channel). exceeds d s ks n) (kept-alike (e .wired) s)))
+      ∙ ap (someOf (λ (n : ℕ). other n && exceeds d s (kept d s) n)) (numbers-alike (e .wired))
 
   initial-alike : (p q : ℕ) → ((n : ℕ) → Numbered c n → sourceAt (nodeRecord c n .start) p ≡ sourceAt (nodeRecord d n .start) q) → initial c p ≡ initial d q
   unfolding initial
@@ -283,8 +203,8 @@ module _ {c d : Circuit} (e : Alike c d) where
 
   started-change-alike : (s : State) (n : ℕ) → startedChange c s n ≡ startedChange d s n
   started-change-alike s n =
-      ap₂ (λ (b : Bool) (t : ℕ). cond b t never) (inner-alike n)
-      (next-alike 0 s (kept c s) n ∙ ap (λ (ks : List Channel). nextChange d 0 s ks n) (kept-alike s))
+      ap₂ (λ (b : Bool) (t : ℕ). cond b t never) (inner-alike (e .wired) n)
+      (next-alike 0 s (kept c s) n ∙ ap (λ (ks : List Channel). nextChange d 0 s ks n) (kept-alike (e .wired) s))
 
   -- where sources agree, the same start
   pub started-alike : (p q : ℕ) → ((n : ℕ) → Numbered c n → sourceAt (nodeRecord c n .start) p ≡ sourceAt (nodeRecord d n .start) q) → started c p ≡ started d q
@@ -298,21 +218,21 @@ module _ {c d : Circuit} (e : Alike c d) where
   pub start-exceeds-alike : (p q : ℕ) → ((n : ℕ) → Numbered c n → sourceAt (nodeRecord c n .start) p ≡ sourceAt (nodeRecord d n .start) q) → startExceeds c p ≡ startExceeds d q
   unfolding startExceeds
   start-exceeds-alike p q h =
-      some-exceeds-alike (initial c p) (isInner c) (isInner d) inner-alike
+      some-exceeds-alike (initial c p) (isInner c) (isInner d) (inner-alike (e .wired))
       ∙ ap (λ (s : State). someOf (λ (n : ℕ). isInner d n && exceeds d s (kept d s) n) (nodeNumbers d)) (initial-alike p q h)
 
   arrived-alike : (time p q : ℕ) (s : State) → ((n : ℕ) → scheduled (c .schedule) time n p (valueAt s n) ≡ scheduled (d .schedule) time n q (valueAt s n)) → arrived c time p s ≡ arrived d time q s
   unfolding arrived
   arrived-alike time p q s h = λ i. record {
     values = map-alike (arrivedValue c time p s) (arrivedValue d time q s)
-        (λ n k. ap₂ (λ (b : Bool) (v : ℕ). cond b v (cond (flips s time n) (1 - valueAt s n) (valueAt s n))) (e .input-same n) (h n)) i;
+        (λ n k. ap₂ (λ (b : Bool) (v : ℕ). cond b v (cond (flips s time n) (1 - valueAt s n) (valueAt s n))) (e .wired .input-same n) (h n)) i;
     changes = map-alike (arrivedChange time s) (arrivedChange time s) (λ n k. refl) i;
   }
 
   stepped-change-alike : (time : ℕ) (s after : State) (n : ℕ) → steppedChange c time s after n ≡ steppedChange d time s after n
   stepped-change-alike time s after n =
-      ap₂ (λ (b : Bool) (t : ℕ). cond b t (changeAt after n)) (reconsidered-alike s after n)
-      (next-alike time after (kept c after) n ∙ ap (λ (ks : List Channel). nextChange d time after ks n) (kept-alike after))
+      ap₂ (λ (b : Bool) (t : ℕ). cond b t (changeAt after n)) (reconsidered-alike (e .wired) s after n)
+      (next-alike time after (kept c after) n ∙ ap (λ (ks : List Channel). nextChange d time after ks n) (kept-alike (e .wired) after))
 
   -- where the schedules put the same, the same step
   pub stepped-alike : (time p q : ℕ) (s : State) → ((n : ℕ) → scheduled (c .schedule) time n p (valueAt s n) ≡ scheduled (d .schedule) time n q (valueAt s n)) → stepped c time p s ≡ stepped d time q s
@@ -328,7 +248,7 @@ module _ {c d : Circuit} (e : Alike c d) where
   unfolding stepExceeds
   step-exceeds-alike time p q s h =
       let after : State = arrived c time p s in
-      some-exceeds-alike after (reconsidered c s after) (reconsidered d s after) (reconsidered-alike s after)
+      some-exceeds-alike after (reconsidered c s after) (reconsidered d s after) (reconsidered-alike (e .wired) s after)
       ∙ ap (λ (z : State). someOf (λ (n : ℕ). reconsidered d s z n && exceeds d z (kept d z) n) (nodeNumbers d)) (arrived-alike time p q s h)
 
 module _ (φ : Fixing) (c : Circuit) where
@@ -336,11 +256,13 @@ module _ (φ : Fixing) (c : Circuit) where
   pub fixed-alike : Alike (fixed φ c) c
   unfolding fixed
   fixed-alike = record {
+    wired = record {
+      count-same = length-map (c .nodes) (fixedNode φ);
+      input-same = λ n. ap (λ (r : Node). leb 2 n && eqb (r .role) 1) (fixed-node-record φ c n);
+      transistors-same = refl;
+    };
     horizon-same = refl;
-    count-same = length-map (c .nodes) (fixedNode φ);
-    input-same = λ n. ap (λ (r : Node). leb 2 n && eqb (r .role) 1) (fixed-node-record φ c n);
     capacitance-same = λ n. ap (λ (r : Node). r .capacitance) (fixed-node-record φ c n);
-    transistors-same = refl;
   }
 
   -- the schedule's times stay
@@ -364,7 +286,7 @@ module _ (φ : Fixing) (c : Circuit) (legal : checkCircuit c ≡ answered c) whe
   start-source : (q n : ℕ) → Numbered (fixed φ c) n → sourceAt (nodeRecord (fixed φ c) n .start) q ≡ sourceAt (nodeRecord c n .start) (fixedPattern φ (c .letters) q)
   start-source q n h =
       ap (λ (m : Node). sourceAt (m .start) q) (fixed-node-record φ c n)
-      ∙ source-fixed φ (c .letters) (nodeRecord c n .start) q (legal-node legal (n - 2) (omega (arith, h .least, h .most, fixed-alike φ c .count-same)) .source)
+      ∙ source-fixed φ (c .letters) (nodeRecord c n .start) q (legal-node legal (n - 2) (omega (arith, h .least, h .most, fixed-alike φ c .wired .count-same)) .source)
 
   -- and so is what the schedule puts
   put-fixed : (time q : ℕ) (s : State) (n : ℕ) → scheduled (fixed φ c .schedule) time n q (valueAt s n) ≡ scheduled (c .schedule) time n (fixedPattern φ (c .letters) q) (valueAt s n)

@@ -141,7 +141,7 @@ order-makes-no-difference {R = R} {K} L s fixed-one c φ cell cell′ size first
       λ second again there n q hn hq number value change number′ value′ change′ asked asked′.
           let x′ = reached-stands L fixed-one (fixed φ c) cell′ again there in
           let at′ = x′ .1 in
-          let nodes : length (fixed φ c .nodes) ≡ length (c .nodes) = fixed-alike φ c .count-same in
+          let nodes : length (fixed φ c .nodes) ≡ length (c .nodes) = fixed-alike φ c .wired .count-same in
           let same = same-state φ c at at′ q hq in
           let a = keeps-tells L fixed-one (fixed φ c) cell′ (trace-ground (at′ .ground) (at′ .trace)) (x′ .2) q (rw (fixed-letters φ c) hq) n (omega arith) number value change asked in
           let b = keeps-tells L s c cell (trace-ground (at .ground) (at .trace)) (x .2) (fixedPattern φ (c .letters) q) (pattern-lt φ (c .letters) (c .letters) q (omega arith) hq) n hn number′ value′ change′ asked′ in (

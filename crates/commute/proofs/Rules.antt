@@ -222,7 +222,7 @@ fully-fixed-by-the-rules {K = K} L s fixed-one c φ cell cell′ full size first
           let e : aloneAt d (x′ .0) q ≡ stepsAlone c r (startAlone c r) (z .1) =
           z .2 q hq′ ∙ ap (λ (a : Alone). stepsAlone d q a (z .1)) (start-alone dlegal (fresh-sound (d .letters)) q hq′) ∙ steps-fixed c legal φ q (z .1) in
           let state : stateAt d (x′ .0) q ≡ stepsAlone c r (startAlone c r) (z .1) .state = ap (λ (a : Alone). a .state) e in
-          let nodes : length (d .nodes) ≡ length (c .nodes) = fixed-alike φ c .count-same in (
+          let nodes : length (d .nodes) ≡ length (c .nodes) = fixed-alike φ c .wired .count-same in (
             sym (ap (λ (a : Alone). a .time) e) ∙ sym (keeps-time L fixed-one d cell′ g′ (x′ .2)),
             λ n hn number value change asked.
                 subst (λ (st : State). (number ≡ 0) × (value ≡ valueAt st n) × (change ≡ changeAt st n)) state

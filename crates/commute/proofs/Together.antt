@@ -28,7 +28,8 @@ use Rattle.rules.proofs.StoreAll.{all-stored}
 use Rattle.rules.proofs.Time.{keeps-before, next-own, next-least}
 use Rattle.rules.proofs.Moment.{SoundMoment, moment-ext, start-time, steppedStates, step-time, legal-few, start-state, moment-states, time-within, step-state, step-extends}
 use Rattle.commute.specs.Demand.{fixedPattern}
-use Rattle.commute.proofs.Fixed.{numbers-alike, fixed-alike, pattern-lt, pattern-time-fixed, started-fixed, stepped-fixed, start-exceeds-fixed, step-exceeds-fixed}
+use Rattle.rules.proofs.Wiring.{numbers-alike}
+use Rattle.commute.proofs.Fixed.{fixed-alike, pattern-lt, pattern-time-fixed, started-fixed, stepped-fixed, start-exceeds-fixed, step-exceeds-fixed}
 use Rattle.commute.proofs.Cover.{Covered, covered-extends, covered-all, covered-fresh}
 
 -- a later now that is before the soonest time leaves the soonest time
@@ -81,7 +82,7 @@ module _ (φ : Fixing) (c : Circuit) where
       let is : momentOf (fixed φ c) time′ states′ t′ .table ≡ tableAfter (c .letters) ns (λ q. states (under q)) t′ =
       ap (λ (m : Moment). m .table) (moment-ext (fixed φ c) time′ states′ (λ q. states (under q)) t′ (λ q h. same q (rw (← fixed-letters) h)))
       ∙ moment-table (fixed φ c) time′ (λ q. states (under q)) t′
-      ∙ ap₂ (λ (k : ℕ) (xs : List ℕ). tableAfter k xs (λ q. states (under q)) t′) fixed-letters (numbers-alike (fixed-alike φ c)) in
+      ∙ ap₂ (λ (k : ℕ) (xs : List ℕ). tableAfter k xs (λ q. states (under q)) t′) fixed-letters (numbers-alike (fixed-alike φ c .wired)) in
       rw (is, moment-table c time states t)
       (covered-all φ few g ns (storeAll (c .letters) (map fφ ns) t′ .table) (storeAll (c .letters) (map f ns) t .table)
       (all-stored (map fφ ns) t′ few s′ .sound) (all-stored (map f ns) t few s .sound)

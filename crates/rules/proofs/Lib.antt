@@ -11,6 +11,7 @@ pub mod RunSteps
 pub mod Cases
 pub mod Mistakes
 pub mod Ceiling
+pub mod SensitivityCases
 pub mod Opened
 pub mod Label
 pub mod Reach
@@ -22,3 +23,6 @@ pub mod Sharing
 pub mod Behind
 pub mod Matrix
 pub mod Nodes
+pub mod Wiring
+pub mod Raised
+pub mod Sensitivity

@@ -2,14 +2,14 @@
 -- holds the new value. So the resistance of its delay walk is finite, as it is where a side drives, and the rule never runs empty.
 use mathlib.Core.Path.{_≡_, refl, sym, _∙_, ap, subst}
 use mathlib.Core.Logic.{_⊎_, inl, inr, ⊎-elim}
-use mathlib.Core.Bool.{Bool, true, false, _&&_, _||_, cond}
+use mathlib.Core.Bool.{Bool, true, false, _&&_, _||_}
 use mathlib.Core.Option.{Option, none}
 use mathlib.Core.List.{List, [], _∷_, _++_, List·Memᴰ, List·Memᴰ·head, Memᴰ·append-left, Memᴰ·append-right}
 use Prim.Native.Nat.{ℕ, _+_, _-_, _≤_, _<_}
 use native.Mathlib.Omega.{arith}
-use lib.ListN.{length, getD, List·getD-eq-default}
+use lib.ListN.{length}
 use lib.Dec.{eqb, ltb}
-use borrow.Author.Tests.{eq-eqb, ne-eqb, ltb-true, ltb-false}
+use borrow.Author.Tests.{eq-eqb, ne-eqb, ltb-true}
 use Rattle.lists.proofs.Cases.{bool-cases, eq-or-ne, lt-or-ge, and-left, and-right, or-right, true-false}
 use Rattle.units.specs.declared.Resistance.{Resistance}
 use Rattle.units.specs.declared.Resistance.the-variants.{Infinite, Finite}
@@ -21,8 +21,7 @@ use Rattle.rules.specs.State.{State, valueAt, isDriven}
 use Rattle.rules.specs.Kept.{Channel}
 use Rattle.rules.specs.Sum.{Sum, drivenSum, ownSum, nodeSum, infinite, decided, undriven, newValue}
 use Rattle.rules.specs.Delay.{Load, isEnd, nodeLoad, inOhms}
-use Rattle.rules.specs.Step.{target, delayBy, delayTo}
-use Rattle.rules.proofs.State.{Shaped, Bits}
+use Rattle.rules.specs.Step.{sumAt, target, loadTo, delayBy, delayTo}
 use Rattle.rules.proofs.Walk.{sumRule, loadRule, walk-within, walk-related, sum-walk, load-walk, not-end-inner}
 use Rattle.rules.proofs.Range.{passRule, passed, infinite-join, load-high, load-low, new-side}
 
@@ -121,88 +120,70 @@ by-charge v present u ne = by (ltb (v .lowCharge .0) (v .highCharge .0)) (ltb (v
     by false true p q w e n = inr (e, omega (arith, ltb-true (v .highCharge .0) (v .lowCharge .0) q))
     by false false p q w e n = absurd (n e)
 
--- the sum of the node that a walk is for
-abbrev pub sumAt : Circuit → State → List Channel → ℕ → Sum
-sumAt c s ks n = nodeSum (length (c .nodes)) c s ks none n
-
--- and its delay walk to the value that it goes to
+-- the delay walk of a node to the value that it goes to
 abbrev pub loadAt : Circuit → State → List Channel → Bool → ℕ → Load
-loadAt c s ks sharing n = nodeLoad (length (c .nodes)) sharing (target c s ks n) c s ks none n
+loadAt c s ks sharing n = loadTo c s ks sharing (target c s ks n) n
 
-module _ (c : Circuit) (s : State) (shaped : Shaped c s) (bits : Bits c s) where
-  -- every value is 0 or 1: a rail's is its number, a node record's a bit, and past the last there is none
-  any-bit : (m : ℕ) → valueAt s m ≤ 1
-  any-bit m = by (ltb m 2) refl
+module _ (c : Circuit) (s : State) (bits : (m : ℕ) → valueAt s m ≤ 1) (ks : List Channel) (n : ℕ) (changes : target c s ks n ≡ valueAt s n → ⊥) where
+  abbrev Charged : ℕ → Type 0
+  Charged new = ((new ≡ 1) × (1 ≤ sumAt c s ks n .highCharge .0)) ⊎ ((new ≡ 0) × (1 ≤ sumAt c s ks n .lowCharge .0))
+
+  goes-charged : undriven (sumAt c s ks n) ≡ true → Charged (target c s ks n)
+  unfolding target
+  goes-charged u = by-charge (sumAt c s ks n) (valueAt s n) u changes
+
+  -- where charge decides, some node of the kept tree already holds the new value
+  pub changing-holder : undriven (sumAt c s ks n) ≡ true → Holder s (target c s ks n) (passed c ks (length (c .nodes)) none n)
+  changing-holder u = by (target c s ks n) (goes-charged u)
     where
-      by : (b : Bool) → ltb m 2 ≡ b → cond b m (getD (s .values) (m - 2) 0) ≤ 1
-      by true e = omega (arith, ltb-true m 2 e)
-      by false e =
-          let least : 2 ≤ m = ltb-false m 2 e in
-          ⊎-elim
-          (λ (lt : m < 2 + length (c .nodes)). subst (λ (t : Bool). cond t m (getD (s .values) (m - 2) 0) ≤ 1) e (bits .bit m (record { least = least; most = lt })))
-          (λ (ge : 2 + length (c .nodes) ≤ m). rw (List·getD-eq-default (s .values) 0 {n = m - 2} (omega (arith, shaped .values-long))) (omega arith))
-          (lt-or-ge m (2 + length (c .nodes)))
+      by : (new : ℕ) → Charged new → Holder s new (passed c ks (length (c .nodes)) none n)
+      by new (inl p) = rw (p .0) (side-holder c s ks bits 1 (λ v. v .highCharge .0) high-side (length (c .nodes)) none n (p .1))
+      by new (inr p) = rw (p .0) (side-holder c s ks bits 0 (λ v. v .lowCharge .0) low-side (length (c .nodes)) none n (p .1))
 
-  module _ (ks : List Channel) (n : ℕ) (changes : target c s ks n ≡ valueAt s n → ⊥) where
-    abbrev Charged : ℕ → Type 0
-    Charged new = ((new ≡ 1) × (1 ≤ sumAt c s ks n .highCharge .0)) ⊎ ((new ≡ 0) × (1 ≤ sumAt c s ks n .lowCharge .0))
+  -- so its resistance is finite
+  shared-finite : undriven (sumAt c s ks n) ≡ true → infinite (loadAt c s ks true n .resistance) ≡ false
+  shared-finite u = by (target c s ks n) (goes-charged u)
+    where
+      not-infinite : (b : Bool) → (b ≡ true → ⊥) → b ≡ false
+      not-infinite true f = absurd (f refl)
+      not-infinite false f = refl
 
-    goes-charged : undriven (sumAt c s ks n) ≡ true → Charged (target c s ks n)
-    unfolding target
-    goes-charged u = by-charge (sumAt c s ks n) (valueAt s n) u changes
+      by : (new : ℕ) → Charged new → infinite (nodeLoad (length (c .nodes)) true new c s ks none n .resistance) ≡ false
+      by new (inl p) = rw (p .0) (not-infinite _ (λ q. omega (arith, p .1, side-finite c s ks bits 1 (λ v. v .highCharge .0) high-side (length (c .nodes)) none n q)))
+      by new (inr p) = rw (p .0) (not-infinite _ (λ q. omega (arith, p .1, side-finite c s ks bits 0 (λ v. v .lowCharge .0) low-side (length (c .nodes)) none n q)))
 
-    -- where charge decides, some node of the kept tree already holds the new value
-    pub changing-holder : undriven (sumAt c s ks n) ≡ true → Holder s (target c s ks n) (passed c ks (length (c .nodes)) none n)
-    changing-holder u = by (target c s ks n) (goes-charged u)
-      where
-        by : (new : ℕ) → Charged new → Holder s new (passed c ks (length (c .nodes)) none n)
-        by new (inl p) = rw (p .0) (side-holder c s ks any-bit 1 (λ v. v .highCharge .0) high-side (length (c .nodes)) none n (p .1))
-        by new (inr p) = rw (p .0) (side-holder c s ks any-bit 0 (λ v. v .lowCharge .0) low-side (length (c .nodes)) none n (p .1))
+  abbrev Sided : ℕ → Type 0
+  Sided new = ((new ≡ 1) × (infinite (sumAt c s ks n .high) ≡ undriven (sumAt c s ks n))) ⊎ ((new ≡ 0) × (infinite (sumAt c s ks n .low) ≡ undriven (sumAt c s ks n)))
 
-    -- so its resistance is finite
-    shared-finite : undriven (sumAt c s ks n) ≡ true → infinite (loadAt c s ks true n .resistance) ≡ false
-    shared-finite u = by (target c s ks n) (goes-charged u)
-      where
-        not-infinite : (b : Bool) → (b ≡ true → ⊥) → b ≡ false
-        not-infinite true f = absurd (f refl)
-        not-infinite false f = refl
+  goes-sided : Sided (target c s ks n)
+  unfolding target
+  goes-sided = new-side (sumAt c s ks n) (valueAt s n) changes
 
-        by : (new : ℕ) → Charged new → infinite (nodeLoad (length (c .nodes)) true new c s ks none n .resistance) ≡ false
-        by new (inl p) = rw (p .0) (not-infinite _ (λ q. omega (arith, p .1, side-finite c s ks any-bit 1 (λ v. v .highCharge .0) high-side (length (c .nodes)) none n q)))
-        by new (inr p) = rw (p .0) (not-infinite _ (λ q. omega (arith, p .1, side-finite c s ks any-bit 0 (λ v. v .lowCharge .0) low-side (length (c .nodes)) none n q)))
+  -- and where a side drives it is too
+  driven-finite : undriven (sumAt c s ks n) ≡ false → infinite (loadAt c s ks false n .resistance) ≡ false
+  driven-finite u = by (target c s ks n) goes-sided
+    where
+      by : (new : ℕ) → Sided new → infinite (nodeLoad (length (c .nodes)) false new c s ks none n .resistance) ≡ false
+      by new (inl p) = rw (p .0) (load-high c s ks (length (c .nodes)) none n ∙ p .1 ∙ u)
+      by new (inr p) = rw (p .0) (load-low c s ks (λ m e. bits m) (length (c .nodes)) none n ∙ p .1 ∙ u)
 
-    abbrev Sided : ℕ → Type 0
-    Sided new = ((new ≡ 1) × (infinite (sumAt c s ks n .high) ≡ undriven (sumAt c s ks n))) ⊎ ((new ≡ 0) × (infinite (sumAt c s ks n .low) ≡ undriven (sumAt c s ks n)))
+  never-infinite : infinite (loadAt c s ks (undriven (sumAt c s ks n)) n .resistance) ≡ false
+  never-infinite = by (undriven (sumAt c s ks n)) shared-finite driven-finite
+    where
+      by : (b : Bool) → (b ≡ true → infinite (loadAt c s ks true n .resistance) ≡ false) → (b ≡ false → infinite (loadAt c s ks false n .resistance) ≡ false) → infinite (loadAt c s ks b n .resistance) ≡ false
+      by true p q = p refl
+      by false p q = q refl
 
-    goes-sided : Sided (target c s ks n)
-    unfolding target
-    goes-sided = new-side (sumAt c s ks n) (valueAt s n) changes
-
-    -- and where a side drives it is too
-    driven-finite : undriven (sumAt c s ks n) ≡ false → infinite (loadAt c s ks false n .resistance) ≡ false
-    driven-finite u = by (target c s ks n) goes-sided
-      where
-        by : (new : ℕ) → Sided new → infinite (nodeLoad (length (c .nodes)) false new c s ks none n .resistance) ≡ false
-        by new (inl p) = rw (p .0) (load-high c s ks (length (c .nodes)) none n ∙ p .1 ∙ u)
-        by new (inr p) = rw (p .0) (load-low c s ks (λ m e. any-bit m) (length (c .nodes)) none n ∙ p .1 ∙ u)
-
-    never-infinite : infinite (loadAt c s ks (undriven (sumAt c s ks n)) n .resistance) ≡ false
-    never-infinite = by (undriven (sumAt c s ks n)) shared-finite driven-finite
-      where
-        by : (b : Bool) → (b ≡ true → infinite (loadAt c s ks true n .resistance) ≡ false) → (b ≡ false → infinite (loadAt c s ks false n .resistance) ≡ false) → infinite (loadAt c s ks b n .resistance) ≡ false
-        by true p q = p refl
-        by false p q = q refl
-
-    -- The resistance of a node that changes is a number of ohms, and its delay is that of these ohms: none meets `noPath`.
-    pub changing-finite :
-        let load = loadAt c s ks (undriven (sumAt c s ks n)) n in
-        (r : Ohms) × (load .resistance ≡ Finite r) × (delayTo c s ks (target c s ks n) n ≡ units.delay r (load .charge) .0)
-    unfolding delayTo delayBy
-    changing-finite = by (loadAt c s ks (undriven (sumAt c s ks n)) n) never-infinite
-      where
-        by : (load : Load) → infinite (load .resistance) ≡ false → (r : Ohms) × (load .resistance ≡ Finite r) × (units.delay (inOhms (load .resistance)) (load .charge) .0 ≡ units.delay r (load .charge) .0)
-        by load = at (load .resistance)
-          where
-            at : (x : Resistance) → infinite x ≡ false → (r : Ohms) × (x ≡ Finite r) × (units.delay (inOhms x) (load .charge) .0 ≡ units.delay r (load .charge) .0)
-            at Infinite q = true-false true refl q
-            at (Finite r) q = (r, refl, refl)
+  -- The resistance of a node that changes is a number of ohms, and its delay is that of these ohms: none meets `noPath`.
+  pub changing-finite :
+      let load = loadAt c s ks (undriven (sumAt c s ks n)) n in
+      (r : Ohms) × (load .resistance ≡ Finite r) × (delayTo c s ks (target c s ks n) n ≡ units.delay r (load .charge) .0)
+  unfolding delayTo delayBy
+  changing-finite = by (loadAt c s ks (undriven (sumAt c s ks n)) n) never-infinite
+    where
+      by : (load : Load) → infinite (load .resistance) ≡ false → (r : Ohms) × (load .resistance ≡ Finite r) × (units.delay (inOhms (load .resistance)) (load .charge) .0 ≡ units.delay r (load .charge) .0)
+      by load = at (load .resistance)
+        where
+          at : (x : Resistance) → infinite x ≡ false → (r : Ohms) × (x ≡ Finite r) × (units.delay (inOhms x) (load .charge) .0 ≡ units.delay r (load .charge) .0)
+          at Infinite q = true-false true refl q
+          at (Finite r) q = (r, refl, refl)

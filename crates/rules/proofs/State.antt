@@ -5,7 +5,7 @@ use mathlib.Core.Bool.{true}
 use mathlib.Core.List.{List, map}
 use Prim.Native.Nat.{ℕ, zero, suc, _+_, _-_, _≤_, _<_}
 use native.Mathlib.Omega.{arith}
-use lib.ListN.{length, getD, length-map}
+use lib.ListN.{length, getD, length-map, List·getD-eq-default}
 use lib.Seq.{ext-getD}
 use borrow.Author.Tests.{lt-ltb, le-ltb}
 use Rattle.lists.proofs.Cases.{lt-or-ge}
@@ -127,3 +127,15 @@ node-cases c n =
     (λ (g : 2 + length (c .nodes) ≤ n). inr (inr g))
     (lt-or-ge n (2 + length (c .nodes))))
     (lt-or-ge n 2)
+
+-- every value of a state whose node records have bits is 0 or 1: a rail's is its number, and past the last there is none
+pub any-bit : (c : Circuit) (s : State) → Shaped c s → Bits c s → (n : ℕ) → valueAt s n ≤ 1
+any-bit c s shaped bits n =
+    ⊎-elim
+    (λ (h : n < firstNodeNumber). omega (arith, rail-value s n h))
+    (λ (h : Numbered c n ⊎ (firstNodeNumber + length (c .nodes) ≤ n)).
+    ⊎-elim
+    (λ (i : Numbered c n). bits .bit n i)
+    (λ (i : firstNodeNumber + length (c .nodes) ≤ n). omega (arith, value-place s n (omega arith), List·getD-eq-default (s .values) 0 {n = n - 2} (omega (arith, shaped .values-long))))
+    h)
+    (node-cases c n)

@@ -8,6 +8,7 @@ pub mod Matrix
 pub mod Sum
 pub mod Delay
 pub mod Step
+pub mod Sensitivity
 pub mod Run
 pub mod Call
 pub mod Cases

@@ -13,26 +13,34 @@ use Rattle.rules.specs.Arrive.{sourceAt, arrived}
 use Rattle.rules.specs.Label.{some}
 use Rattle.rules.specs.Reach.{reconsidered}
 use Rattle.rules.specs.Kept.{Channel, kept}
-use Rattle.rules.specs.Sum.{nodeSum, undriven, newValue}
-use Rattle.rules.specs.Delay.{nodeLoad, inOhms}
+use Rattle.rules.specs.Sum.{Sum, nodeSum, undriven, newValue}
+use Rattle.rules.specs.Delay.{Load, nodeLoad, inOhms}
 
--- rule 5 for node n, over the kept channels
+-- rule 4 for node n, over the kept channels: its walk begins there
+abbrev pub sumAt : Circuit → State → List Channel → ℕ → Sum
+sumAt c s ks n = nodeSum (length (c .nodes)) c s ks none n
+
+-- rule 5
 unfoldable pub target : Circuit → State → List Channel → ℕ → ℕ
-target c s ks n = newValue (nodeSum (length (c .nodes)) c s ks none n) (valueAt s n)
+target c s ks n = newValue (sumAt c s ks n) (valueAt s n)
 
 -- document 02, wish 3: a resistance in the walk of rule 4 for node n is above the ceiling, whether or not its side decides
 unfoldable pub exceeds : Circuit → State → List Channel → ℕ → Bool
-exceeds c s ks n = nodeSum (length (c .nodes)) c s ks none n .exceeds
+exceeds c s ks n = sumAt c s ks n .exceeds
 
--- rule 6: the delay of node n to a new value, by a walk that ends at holders of that value or only at driven ends
+-- rule 6: the walk of node n to a new value, which ends at holders of that value or only at driven ends
+abbrev pub loadTo : Circuit → State → List Channel → Bool → ℕ → ℕ → Load
+loadTo c s ks sharing new n = nodeLoad (length (c .nodes)) sharing new c s ks none n
+
+-- the delay by such a walk
 unfoldable pub delayBy : Circuit → State → List Channel → Bool → ℕ → ℕ → ℕ
 delayBy c s ks sharing new n =
-    let load = nodeLoad (length (c .nodes)) sharing new c s ks none n in
+    let load = loadTo c s ks sharing new n in
     units.delay (inOhms (load .resistance)) (load .charge) .0
 
 -- it ends at holders where neither side drives the node
 unfoldable pub delayTo : Circuit → State → List Channel → ℕ → ℕ → ℕ
-delayTo c s ks new n = delayBy c s ks (undriven (nodeSum (length (c .nodes)) c s ks none n)) new n
+delayTo c s ks new n = delayBy c s ks (undriven (sumAt c s ks n)) new n
 
 -- past the horizon a change is never
 abbrev pub inHorizon : Circuit → ℕ → ℕ

@@ -1,3 +1,4 @@
 pub mod Rounding
 pub mod Laws
+pub mod Growth
 pub mod Cases

@@ -1,6 +1,6 @@
 -- Laws of division rounded up, and of the products that are divided.
 use Prim.Native.Nat.{ℕ, zero, suc, _+_, _-_, _*_, _^_, _≤_, _<_, zero-le}
-use native.Mathlib.Nat.{lt-div-mul-add, div-lt-iff-lt-mul, div-zero, suc-mul, zero-mul, mul-le-mul, mul-le-mul-left, le-mul-of-pos-right, lt-of-mul-lt-mul-right, le-trans}
+use native.Mathlib.Nat.{lt-div-mul-add, div-lt-iff-lt-mul, div-zero, suc-mul, zero-mul, add-mul, mul-le-mul, mul-le-mul-left, le-mul-of-pos-right, lt-of-mul-lt-mul-right, le-trans}
 use native.Mathlib.Omega.{arith}
 use Rattle.units.specs.Rules.{ceilDiv}
 
@@ -32,6 +32,10 @@ module _ {b : ℕ} (pos : 1 ≤ b) where
   -- it is at most the dividend
   pub ceilDiv-at-most : (a : ℕ) → ceilDiv a b ≤ a
   ceilDiv-at-most a = ceilDiv-least b (le-mul-of-pos-right a pos)
+
+  -- that of a sum, or of less, is at most the two together
+  pub ceilDiv-sum : (a d : ℕ) {e : ℕ} → e ≤ a + d → ceilDiv e b ≤ ceilDiv a b + ceilDiv d b
+  ceilDiv-sum a d h = ceilDiv-least b (omega (arith, ceilDiv-covers a, ceilDiv-covers d, add-mul (ceilDiv a b) (ceilDiv d b) b))
 
 -- the product of two numbers of 32 bits
 pub product-within : {a b : ℕ} → a < 2 ^ 32 → b < 2 ^ 32 → a * b ≤ (2 ^ 32 - 1) * (2 ^ 32 - 1)
