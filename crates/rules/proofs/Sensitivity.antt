@@ -5,7 +5,7 @@ use mathlib.Core.Logic.{⊎-elim}
 use mathlib.Core.Bool.{Bool, true, false, not, _&&_, _||_, cond}
 use mathlib.Core.Option.{Option, none}
 use mathlib.Core.List.{List, [], _∷_, _++_, List·Memᴰ, List·Memᴰ·head, List·Memᴰ·tail, List·Memᴰ·not-nil}
-use Prim.Native.Nat.{ℕ, _+_, _*_, _≤_, _<_}
+use Prim.Native.Nat.{ℕ, _+_, _*_, _≤_, _<_, min}
 use native.Mathlib.Nat.{mul-add, mul-le-mul-left}
 use native.Mathlib.Omega.{arith}
 use lib.ListN.{length}
@@ -23,11 +23,11 @@ use Rattle.units.proofs.Growth.{Grown, joined-grown, share-grown, delay-grown}
 use Rattle.format.specs.Circuit.{Circuit, nodeRecord}
 use Rattle.format.specs.Legal.{checkCircuit}
 use Rattle.format.proofs.Legal.{LegalCell, legal-cell}
-use Rattle.rules.specs.State.{State, valueAt, isDriven}
+use Rattle.rules.specs.State.{State, valueAt, changeAt, isDriven}
 use Rattle.rules.specs.Kept.{Channel, kept}
 use Rattle.rules.specs.Sum.{Sum, nodeSum, undriven, newValue}
 use Rattle.rules.specs.Delay.{Load, joinLoads, loadArm, isEnd, nodeLoad, inOhms}
-use Rattle.rules.specs.Step.{sumAt, target, exceeds, loadTo, delayBy, delayTo}
+use Rattle.rules.specs.Step.{sumAt, target, exceeds, loadTo, delayBy, delayTo, inHorizon, nextChange}
 use Rattle.rules.specs.Sensitivity.{raised, goesTo, delayOf, resistanceOf, DueToChange, Loadable, mostGrowth, Slower, LoadBoundsDelay}
 use Rattle.rules.proofs.Label.{all-legal, inner-node}
 use Rattle.rules.proofs.Walk.{Rule, walk, sumRule, loadRule, walk-within, walk-related, sum-walk, load-walk, walk-end, not-end-inner, Distinct, Kept, kept-kept, way-root}
@@ -262,6 +262,11 @@ module _ (c : Circuit) (legal : checkCircuit c ≡ answered c) (s : State) (bits
         never-falls = rw delay-raised (grows .0);
         grows-at-most = omega (arith, delay-raised, grows .1, ap (λ (r : Resistance). mostGrowth (inOhms r) more) (finite .1));
       }
+
+-- the delay that the claim speaks of is the one by which a start or a step sets the next change of a node that it reconsiders
+pub due-next-change : (c : Circuit) (s : State) (n time : ℕ) → DueToChange c s n → nextChange c time s (kept c s) n ≡ inHorizon c (min (changeAt s n) (time + delayOf c s n))
+unfolding nextChange
+due-next-change c s n time due = rw (ne-eqb (goesTo c s n) (valueAt s n) (due .changes))
 
 -- the claim
 pub load-bounds-delay : LoadBoundsDelay
