@@ -12,6 +12,7 @@ pub mod fights;
 pub mod functions;
 pub mod generate;
 pub mod listing;
+pub mod load;
 pub mod other_tool;
 pub mod program;
 pub mod random;

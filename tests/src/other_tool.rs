@@ -9,12 +9,13 @@ use crate::simulator::pattern::State;
 use crate::simulator::run::Run;
 use crate::vectors::text;
 use crate::waves;
+use std::path::Path;
 
 /// A sample cell by its name.
 #[derive(Clone, Copy, Debug)]
-pub struct Sample(pub &'static str);
+pub struct Sample<'a>(pub &'a str);
 
-impl Sample {
+impl Sample<'_> {
     fn file(self) -> Vec<u8> {
         bytes(&in_repository(&format!("cells/{}.cell", self.0)))
     }
@@ -25,24 +26,24 @@ impl Sample {
 
     /// What the rules list after the start.
     pub fn listing(self) -> Vec<String> {
-        let listing = waves::of_file(&self.file());
-        let lines = listing.lines().skip(1);
-        lines
-            .skip_while(|line| line.starts_with("0 "))
-            .map(str::to_owned)
-            .collect()
+        waves::after_start(&self.file())
     }
 
     /// The lines of a column in the table that begins with the sample's listing.
     pub fn told(self, column: usize) -> Vec<String> {
-        let text = text(&in_repository("cells/README.md"));
         let head = format!("| `{}.waves` |", self.0);
-        let table = text.lines().skip_while(|line| !line.starts_with(&head));
-        let rows = table.skip(2).take_while(|line| line.starts_with('|'));
-        let cells = rows.filter_map(|row| row.split('|').nth(column));
-        let lines = cells.map(|cell| cell.trim().trim_matches('`').to_owned());
-        lines.filter(|line| !line.is_empty()).collect()
+        column_of(&in_repository("cells/README.md"), &head, column)
     }
+}
+
+/// The lines of a column in the table of a page whose first row begins so.
+pub fn column_of(page: &Path, head: &str, column: usize) -> Vec<String> {
+    let text = text(page);
+    let table = text.lines().skip_while(|line| !line.starts_with(head));
+    let rows = table.skip(2).take_while(|line| line.starts_with('|'));
+    let cells = rows.filter_map(|row| row.split('|').nth(column));
+    let lines = cells.map(|cell| cell.trim().trim_matches('`').to_owned());
+    lines.filter(|line| !line.is_empty()).collect()
 }
 
 /// Runs a cell to its end with another tool's step of a pattern to a time; gives also the

@@ -1,6 +1,7 @@
-//! Counts of answers, so that a comparison shows what it has seen.
+//! Counts of answers and of what happened, so that a comparison shows what it has seen.
 
 use crate::refusal::ANSWERS;
+use std::collections::BTreeMap;
 use std::fmt;
 
 /// How often each answer occurred.
@@ -34,5 +35,26 @@ impl fmt::Display for Tally {
             .map(|(answer, count): (u32, u64)| format!("{answer}: {count}"))
             .collect();
         write!(out, "answers {}", parts.join(", "))
+    }
+}
+
+/// How often each thing happened.
+#[derive(Clone, Debug, Default)]
+pub struct Seen(BTreeMap<&'static str, u64>);
+
+impl Seen {
+    /// Counts a thing, if it happened.
+    pub fn count(&mut self, what: &'static str, happened: bool) {
+        *self.0.entry(what).or_default() += u64::from(happened);
+    }
+
+    /// Tells all counts, and fails unless each thing happened at least so often.
+    pub fn expect(&self, least: u64) {
+        for (what, count) in &self.0 {
+            println!("{what}: {count}");
+        }
+        for (what, count) in &self.0 {
+            assert!(*count >= least, "{what}: {count}");
+        }
     }
 }

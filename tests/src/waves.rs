@@ -18,6 +18,16 @@ pub fn of_file(file: &[u8]) -> String {
     in_table(file, LENGTH)
 }
 
+/// What `waves` lists after the start.
+pub fn after_start(file: &[u8]) -> Vec<String> {
+    let listing = of_file(file);
+    let lines = listing.lines().skip(1);
+    lines
+        .skip_while(|line| line.starts_with("0 "))
+        .map(str::to_owned)
+        .collect()
+}
+
 /// The listing of a run in a table of this length.
 pub fn in_table(file: &[u8], length: usize) -> String {
     let mut text = String::new();

@@ -10,27 +10,7 @@ use comparison::simulator::circuit::Circuit;
 use comparison::simulator::pattern::{next_change, State};
 use comparison::simulator::reach::Reach;
 use comparison::simulator::walk::{Ends, Walk};
-use std::collections::BTreeMap;
-
-/// How often each thing happened, at one node and moment of one pattern.
-#[derive(Default)]
-struct Seen(BTreeMap<&'static str, u64>);
-
-impl Seen {
-    fn count(&mut self, what: &'static str, happened: bool) {
-        *self.0.entry(what).or_default() += u64::from(happened);
-    }
-
-    /// Fails unless each thing happened often.
-    fn expect(&self) {
-        for (what, count) in &self.0 {
-            println!("{what}: {count}");
-        }
-        for (what, count) in &self.0 {
-            assert!(*count >= 30, "{what}: {count}");
-        }
-    }
-}
+use comparison::tally::Seen;
 
 /// One pattern of a cell before and after its start or a step.
 struct Moment<'a> {
@@ -271,7 +251,7 @@ fn every_rule_acts() {
         seen.count("dense cell", cell.nodes.len() > 16);
         seen.count("most transistors", cell.transistors.len() == 64);
     }
-    seen.expect();
+    seen.expect(30);
 }
 
 /// Ways to misread rule 2, each with the nodes that it reconsiders.
@@ -319,7 +299,7 @@ fn misreadings_show() {
             }
         });
     }
-    seen.expect();
+    seen.expect(30);
 }
 
 /// The same nodes are reconsidered whichever channels lead on: those that conduct before
@@ -348,5 +328,5 @@ fn same_reach_by_channels_after_alone() {
             }
         });
     }
-    seen.expect();
+    seen.expect(30);
 }
