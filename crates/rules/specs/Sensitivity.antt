@@ -1,4 +1,4 @@
--- How much a wire's load can matter (document 02, wish 11): what more femtofarads at one node do to the delay of another, for one pattern, with every
+-- How much a wire's load can matter (document 02, wish 11): what more femtofarads at one node do to the delay of a node, for one pattern, with every
 -- value and transistor fixed. It is a claim about step rule 6 alone: nothing is said of whole runs, in which changes may swap places.
 use Prim.Native.Nat.{ℕ, _+_, _-_, _*_, _≤_, _<_}
 use mathlib.Core.Path.{_≡_}
@@ -44,8 +44,8 @@ delayOf c s n = delayTo c s (kept c s) (goesTo c s n) n
 abbrev pub resistanceOf : Circuit → State → ℕ → Resistance
 resistanceOf c s n = loadTo c s (kept c s) (undriven (sumAt c s (kept c s) n)) (goesTo c s n) n .resistance
 
--- A node that a side drives and that is due to change: rule 5 gives it another value than it has. Where its walk of rule 4 exceeds the ceiling, the start or step is
--- refused 11 and there is no delay to speak of.
+-- A node that a side drives and that is due to change: rule 5 gives it another value than it has, as it never does to a rail or an input. Where its walk of rule 4
+-- exceeds the ceiling, the start or step is refused 11 and there is no delay to speak of.
 pub record DueToChange (c : Circuit) (s : State) (n : ℕ) : Type 0 where
   pub node : n < firstNodeNumber + length (c .nodes)
   pub driven : undriven (sumAt c s (kept c s) n) ≡ false
@@ -58,7 +58,7 @@ pub record Loadable (c : Circuit) (m : ℕ) (more : Femtofarads) : Type 0 where
   pub inner : isInner c m ≡ true
   pub limit : nodeRecord c m .capacitance .0 + more .0 ≤ mostCapacitance
 
--- R × c / 1000 rounded up: the most picoseconds by which the delay of a node of R ohms grows with c more femtofarads
+-- R × c / 1000 rounded up, c being the femtofarads more: the most picoseconds by which the delay of a node of R ohms grows
 abbrev pub mostGrowth : Ohms → Femtofarads → ℕ
 mostGrowth resistance more = units.ceilDiv (resistance .0 * more .0) 1000
 
@@ -73,11 +73,12 @@ pub record Slower (c : Circuit) (s : State) (n m : ℕ) (more : Femtofarads) : T
   pub resistance : Ohms
   pub resistance-is : resistanceOf c s n ≡ Finite resistance
   pub same-resistance : resistanceOf (raised c m more) s n ≡ Finite resistance
-  -- the delay never falls, and grows by at most R × c / 1000 rounded up
+  -- the delay never falls, and grows by no more than that
   pub never-falls : delayOf c s n ≤ delayOf (raised c m more) s n
   pub grows-at-most : delayOf (raised c m more) s n ≤ delayOf c s n + mostGrowth resistance more
 
--- The claim: any legal cell, any state of one pattern, each value being 0 or 1; any node that a side drives and that is due to change; any inner node, which may be the same.
+-- The claim: any legal cell; any state of one pattern, each value being 0 or 1; any node that a side drives and that is due to change; any inner node, which may be
+-- the same one, and any femtofarads more that leave it within its limit.
 unfoldable pub LoadBoundsDelay : Type 0
 LoadBoundsDelay =
     (c : Circuit) → checkCircuit c ≡ answered c
