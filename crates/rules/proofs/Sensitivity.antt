@@ -16,13 +16,12 @@ use Rattle.lists.proofs.Count.{cond-le}
 use Rattle.refusal.specs.Answer.{answered}
 use Rattle.units.specs.declared.Femtofarads.{Femtofarads}
 use Rattle.units.specs.declared.Resistance.{Resistance}
-use Rattle.units.specs.declared.Resistance.the-variants.{Finite}
 use Rattle.units.specs.Units.{femtofarads}
 use Rattle.units.specs.Rules as units
 use Rattle.units.proofs.Growth.{Grown, joined-grown, share-grown, delay-grown}
 use Rattle.format.specs.Circuit.{Circuit, nodeRecord}
 use Rattle.format.specs.Legal.{checkCircuit}
-use Rattle.format.proofs.Legal.{LegalCell, legal-cell}
+use Rattle.format.proofs.Legal.{legal-cell}
 use Rattle.rules.specs.State.{State, valueAt, changeAt, isDriven}
 use Rattle.rules.specs.Kept.{Channel, kept}
 use Rattle.rules.specs.Sum.{Sum, nodeSum, undriven, newValue}
@@ -33,7 +32,7 @@ use Rattle.rules.proofs.Label.{all-legal, inner-node}
 use Rattle.rules.proofs.Walk.{Rule, walk, sumRule, loadRule, walk-within, walk-related, sum-walk, load-walk, walk-end, not-end-inner, Distinct, Kept, kept-kept, way-root}
 use Rattle.rules.proofs.Range.{passRule, passed, passed-once, Resistive}
 use Rattle.rules.proofs.Sharing.{changing-finite}
-use Rattle.rules.proofs.Wiring.{Wired, driven-alike, kept-alike}
+use Rattle.rules.proofs.Wiring.{driven-alike, kept-alike}
 use Rattle.rules.proofs.Raised.{Heavier, raised-heavier, raised-legal}
 
 -- how often a number stands in a list
