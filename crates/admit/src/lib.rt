@@ -1,6 +1,8 @@
 // A start and a step over all patterns with the refusals that rank last: 11, where a walk exceeds the ceiling at some pattern, then 6.
 // Promise: the reply, and the run and the table where there is no refusal, are those of `start_answer` and `step_answer` of the definitions.
 // A next change of 0 among those that were stored tells of 11; where the table is full, each pattern is tried by itself. Internal to our crates.
+#![tactic(auto)]
+
 ghost use Rattle.std.specs.Prelude.{◌≡◌, true, false, cond, ◌≤◌, length};
 ghost use Rattle.diagram.specs.Held.{held};
 ghost use Rattle.refusal.specs.declared.Refusal.TheVariants.{Ceiling};
@@ -26,7 +28,7 @@ use refusal::{Refusal, Reply};
 use table::stopped;
 
 // The reply, and the run after a start or a step that was not refused.
-#[derive(Drop)]
+#[derive(Clone, Copy)]
 pub struct Next {
     pub reply: Reply,
     pub run: Run,

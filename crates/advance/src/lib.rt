@@ -2,6 +2,8 @@
 // Promise: the reply, the run and the table afterwards are those of the definitions (rules' specs/Call.antt); soundness is checked, the
 // index built and each entry's least number found once, also for a run of many steps. Internal to our crates: crate run has the calls
 // on files and cells.
+#![tactic(auto)]
+
 mod close;
 mod steps;
 
@@ -26,7 +28,7 @@ use steps::steps;
 use table::sound;
 
 // What is to be done: a start in a table with so many entries used, a step, or every step not later than a time.
-#[derive(Drop)]
+#[derive(Clone, Copy)]
 pub enum Task {
     Start(u32),
     Step,
@@ -34,7 +36,7 @@ pub enum Task {
 }
 
 // The reply, and the run afterwards: the one before with a refusal.
-#[derive(Drop)]
+#[derive(Clone, Copy)]
 pub struct Went {
     pub reply: Reply,
     pub run: Run,

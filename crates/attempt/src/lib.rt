@@ -1,6 +1,8 @@
 // The next change of one node over all patterns, by functions in the working table, where it has room for them.
 // Promise: an attempt that was done has stored `change_by` at every pattern, with exactly its missing entries; any other has stored nothing.
 // Internal to our crates: the length of working decides only which way is gone (crate evaluate has the other).
+#![tactic(auto)]
+
 ghost use Rattle.std.specs.Prelude.{◌≡◌, ◌<◌, ◌≤◌, min};
 ghost use Rattle.diagram.specs.Held.{held};
 ghost use Rattle.net.specs.Net.{letters_place, at as at_place};
@@ -21,7 +23,7 @@ use table::{Put, Stop, stopped};
 pub const MOST: usize = 4096;
 
 // What was stored, unless working had no room.
-#[derive(Drop)]
+#[derive(Clone, Copy)]
 pub struct Tried {
     pub done: bool,
     pub put: Put,

@@ -2,6 +2,8 @@
 // 0 where the slot is free.
 // Promise: a result that is found was kept for the same operands. A slot is given to the operands that came last, and what stood there is
 // forgotten, so whoever asks must be able to work a result out again.
+#![tactic(auto)]
+
 ghost use Rattle.std.specs.Prelude.{◌<◌, ◌≤◌, length};
 ghost use Rattle.cache.specs.Cache.{Slot, Looked, Kept};
 

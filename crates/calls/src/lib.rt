@@ -2,6 +2,8 @@
 // Promise: for every input the reply, the used count, the entry or number and each column afterwards are those of the definitions
 // (crate diagram's specs/Call.antt, by cases in specs/Call.antt): refused 8, 7, 9 or 6 in that order, and then with the columns as they
 // were; nothing is required.
+#![tactic(auto)]
+
 ghost use Rattle.std.specs.Prelude.{◌≡◌};
 ghost use Rattle.refusal.specs.declared.Reply.TheVariants.{Refused};
 
@@ -14,7 +16,7 @@ pub mod store;
 pub mod tell;
 
 // What is stored: smaller or sum of entries `a` and `b`; entry `a` where selector `s` is 1, else `b`; entry `e` with letter `j` at a bit.
-#[derive(Drop)]
+#[derive(Clone, Copy)]
 pub enum Make {
     Apply(Operation, u32, u32),
     Choose(u32, u32, u32),
@@ -22,14 +24,14 @@ pub enum Make {
 }
 
 // What is asked of an entry: its number at a pattern; the count of the patterns at which it is 1.
-#[derive(Drop)]
+#[derive(Clone, Copy)]
 pub enum Ask {
     Number(u32, u32),
     Count(u32),
 }
 
 // The reply of a call that stores; the used count and the entry afterwards. A refusal leaves the used count, and its entry is 0.
-#[derive(Drop)]
+#[derive(Clone, Copy)]
 pub struct Stored {
     pub reply: Reply,
     pub used: u32,
@@ -37,7 +39,7 @@ pub struct Stored {
 }
 
 // The reply of a question, and its number, 0 with a refusal.
-#[derive(Drop)]
+#[derive(Clone, Copy)]
 pub struct Told {
     pub reply: Reply,
     pub number: u32,

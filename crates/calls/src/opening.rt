@@ -13,7 +13,7 @@ use refusal::{Refusal, Reply};
 use table::sound;
 
 // What is to be done on a table.
-#[derive(Drop)]
+#[derive(Clone, Copy)]
 pub enum Call {
     Store(Make),
     Tell(Ask),

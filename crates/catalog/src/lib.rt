@@ -1,6 +1,8 @@
 // Every small cell, listed (document 02, wish 12): the cell at a place, written as its file into a lent buffer.
 // Promise: for every place and every buffer the answer is that of specs/Small.antt, by its number and by each byte.
 // Nothing is required of a caller: 9 past the last place, then 8 for the room. The cell is found by arithmetic, and no list is walked.
+#![tactic(auto)]
+
 ghost use Rattle.std.specs.Prelude.{◌≡◌, ◌<◌, length, get_or};
 ghost use Rattle.refusal.specs.Answer as answer;
 ghost use Rattle.format.specs.Circuit.{no_transistor};

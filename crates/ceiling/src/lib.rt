@@ -1,6 +1,8 @@
 // Whether a start or a step exceeds the ceiling at any pattern (document 02, wish 3), tried one pattern after the other by the rules of one pattern.
 // Promise: the answers are `start_within` and `step_within` of crate rules, for the cell that the flat column lays out and the run that the columns hold.
 // Internal to our crates: used only where a table is full, which is rare, since each pattern costs the start or the step of a whole cell.
+#![tactic(auto)]
+
 ghost use Rattle.std.specs.Prelude.{◌≡◌, true, ◌<◌};
 ghost use Rattle.diagram.specs.Held.{held};
 ghost use Rattle.diagram.specs.Pattern.{patterns};

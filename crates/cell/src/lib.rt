@@ -1,6 +1,8 @@
 // The cell as a value with its limits, the check of a cell handed over as a value, and the reader of a cell file.
 // Promise: for every value and every list of bytes the answer is that of the definitions of `format`, by its number and by its value.
 // Nothing is required of a caller. A refused file gives a cell of zeros.
+#![tactic(auto)]
+
 mod legal;
 mod reader;
 pub mod size;
@@ -16,7 +18,7 @@ use records::bytes;
 use refusal::{Refusal, Reply};
 
 // A cell: places past the header's counts are zero in one that was read, and not looked at in one handed over.
-#[derive(Drop)]
+#[derive(Clone, Copy)]
 pub struct Cell {
     pub header: Header,
     pub nodes: [Node; Cell::MOST_NODES as usize],
@@ -25,7 +27,7 @@ pub struct Cell {
 }
 
 // The reader's answer.
-#[derive(Drop)]
+#[derive(Clone, Copy)]
 pub struct Reading {
     pub reply: Reply,
     pub cell: Cell,

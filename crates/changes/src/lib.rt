@@ -1,6 +1,8 @@
 // The next changes of all nodes over all patterns, stored in node order (document 01, step rules 2 to 7).
 // Promise: what is stored is exactly `store_all` of `change_of` for every node, which says too where a walk exceeds the ceiling; where it does not fit, that it stopped for want of room.
 // Internal to our crates: at rest the pending changes with T taken out (crate stir); else by functions made once for all nodes that are not (crate marked), or node by node where working has no room for them.
+#![tactic(auto)]
+
 ghost use Rattle.std.specs.Prelude.{map};
 ghost use Rattle.table.specs.Holds.{Lent};
 ghost use Rattle.functions.specs.Open.{Open};

@@ -136,7 +136,7 @@ module _ {Source R : Type 0} {K : Interface Source R} (L : Lawful K) (s : Source
   pub calls_keep : {m : Moment} → Ground c size m → {h last : Held R} → Keeps K c size h m → {calls : List Call} → After K s h calls last
       → (after : Moment) × Trace c size m after × Keeps K c size last after
   calls_keep {m} g k none = (m, begun, k)
-  calls_keep {m} g k (next call number made rest) =
-      let x = call_keeps g k call number made in
-      let y = calls_keep (trace_ground g x.1) x.2 rest in
+  calls_keep {m} g k (next {h' = h'} call number made rest) =
+      let x = call_keeps g k call {h' = h'} number made in
+      let y = calls_keep {m = (call_keeps g k call {h' = h'} number made).0} (trace_ground g x.1) x.2 rest in
       (y.0, onward x.1 y.1, y.2)

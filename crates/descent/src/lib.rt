@@ -3,6 +3,8 @@
 // Promise: what is stored is the function that at every pattern is what the pattern's numbers settle (`settled_at`), with exactly its
 // missing entries, low part, high part, root. Where the numbers are right that is the rules' next change, or that the walk exceeds the ceiling (proofs/Settled.antt).
 // Internal to our crates.
+#![tactic(auto)]
+
 pub mod descend;
 pub mod letters;
 pub mod live;

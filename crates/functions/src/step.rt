@@ -21,7 +21,7 @@ pub fn first_letter(letter: &[u32], a: u32, b: u32) -> u32
 }
 
 // An entry's parts for 0 and for 1.
-#[derive(Drop)]
+#[derive(Clone, Copy)]
 pub struct Halves {
     pub low: u32,
     pub high: u32,

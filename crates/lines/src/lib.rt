@@ -1,6 +1,8 @@
 // The lines of a start and of a step, written into a lent buffer from a place on; the listing as a whole is a definition (specs/Listing.antt).
 // Promise: the lines of a call's reply are exactly the definition's bytes, and every other byte of the buffer is as it was.
 // Crate listing makes the calls and prints; the columns are only read here, so that a wrong line is refused quickly.
+#![tactic(auto)]
+
 ghost use Rattle.std.specs.Prelude.{◌≡◌, true, false, ◌+◌, ◌<◌, ◌≤◌, length};
 ghost use Rattle.refusal.specs.declared.Reply.TheVariants.{Done};
 ghost use Rattle.diagram.specs.Held.{held};

@@ -20,7 +20,7 @@ use table::{Stop, stopped};
 use values::Many;
 
 // What was stored, unless working had no room.
-#[derive(Drop)]
+#[derive(Clone, Copy)]
 pub struct Tried {
     pub done: bool,
     pub many: Many,

@@ -2,6 +2,8 @@
 // Promise: the run and the table afterwards are `start_moment` and `step_moment` of the definitions, but for 0 in the place of a next change where
 // a walk exceeds the ceiling (specs/Exceeded.antt); where they do not fit, that it stopped for want of room.
 // Internal to our crates: a call refuses first, and shows what is required here.
+#![tactic(auto)]
+
 ghost use Rattle.std.specs.Prelude.{◌≡◌, true, ◌≤◌};
 ghost use Rattle.table.specs.Holds.{Lent};
 ghost use Rattle.functions.specs.Open.{Open};
@@ -25,7 +27,7 @@ use values::arrive::arrive;
 use values::source::sources;
 
 // The run after a start or a step, unless it stopped.
-#[derive(Drop)]
+#[derive(Clone, Copy)]
 pub struct Next {
     pub stop: Stop,
     pub run: Run,

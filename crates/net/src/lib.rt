@@ -2,6 +2,8 @@
 // with a unit, what its schedule puts at a node, and the places of a step's functions.
 // Promise: the column of a legal cell lays out exactly that cell (`Laid`): its fields, each node's arms by rising number, its groups.
 // Internal to our crates: no call from outside sees it.
+#![tactic(auto)]
+
 mod arms;
 pub mod inner;
 pub mod labels;

@@ -2,6 +2,8 @@
 // Promise: for the cell that `net` lays out, `start`, `step` and `next_time` are `started`, `stepped` and `pattern_time` of crate rules, with what
 // exceeds the ceiling, and each part is its definition there, of every state that the columns show. Internal to our crates: the symbolic step calls
 // the parts at its leaves, where a next change of 0 says that a walk exceeds the ceiling (specs/Exceeded.antt).
+#![tactic(auto)]
+
 pub mod arrive;
 pub mod change;
 pub mod keep;
@@ -17,7 +19,7 @@ use net::roots::LEAF;
 use units::{Femtofarads, Resistance};
 
 // Resistances to high and to low, and the charge of the nodes that are high and of those that are low.
-#[derive(Drop)]
+#[derive(Clone, Copy)]
 pub struct Sum {
     pub high: Resistance,
     pub low: Resistance,
@@ -26,28 +28,28 @@ pub struct Sum {
 }
 
 // What the walk of a node sum gives: the sum, or that an arm on the way exceeds the ceiling.
-#[derive(Drop)]
+#[derive(Clone, Copy)]
 pub enum Walked {
     Within(Sum),
     Exceeds,
 }
 
 // The next change of a reconsidered node, or that its walk exceeds the ceiling.
-#[derive(Drop)]
+#[derive(Clone, Copy)]
 pub enum Next {
     At(u32),
     Exceeds,
 }
 
 // The resistance to a new value, and the charge that has to move.
-#[derive(Drop)]
+#[derive(Clone, Copy)]
 pub struct Load {
     pub resistance: Resistance,
     pub charge: Femtofarads,
 }
 
 // The leaf of a pattern's values (net::roots), and labels by node number: nodes that conducting channels join have one.
-#[derive(Drop)]
+#[derive(Clone, Copy)]
 pub struct Kept {
     pub leaf: [u32; LEAF],
     pub labels: [u32; 26],
@@ -55,14 +57,14 @@ pub struct Kept {
 
 // The state of one pattern: values and next changes by node number, those of the rails in front. Places past the node records are not
 // looked at.
-#[derive(Drop)]
+#[derive(Clone, Copy)]
 pub struct State {
     pub values: [u32; 26],
     pub changes: [u32; 26],
 }
 
 // One pattern after its start or a step; where that exceeds the ceiling, the state is of no account.
-#[derive(Drop)]
+#[derive(Clone, Copy)]
 pub struct Outcome {
     pub exceeds: bool,
     pub state: State,

@@ -18,7 +18,7 @@ use working::link::link;
 use working::{both, opposite, without};
 
 // The kept functions by transistor number, unless working them out stopped.
-#[derive(Drop)]
+#[derive(Clone, Copy)]
 pub struct Kept {
     pub stop: Stop,
     pub used: u32,

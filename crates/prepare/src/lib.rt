@@ -1,6 +1,8 @@
 // What a step works out before its descents, as entries of the working table: the roots of a step (specs/Roots.antt).
 // Promise: values and next changes are those of the lent table; seeds and kept functions are rules 2 and 3 at every pattern.
 // No room in the working table is an ordinary answer, which comes only where every row of its columns is used.
+#![tactic(auto)]
+
 ghost use Rattle.std.specs.Prelude.{◌≡◌, true, false, ◌+◌, length};
 ghost use Rattle.format.specs.Circuit.{first_node_number};
 ghost use Rattle.diagram.specs.Held.{held};
@@ -26,7 +28,7 @@ use working::begin;
 use working::many::bring_all;
 
 // The roots of a step in their places (net::roots), unless working them out stopped.
-#[derive(Drop)]
+#[derive(Clone, Copy)]
 pub struct Prepared {
     pub stop: Stop,
     pub used: u32,

@@ -1,6 +1,8 @@
 // The run record as a value, and what is read off a run and its table: soundness, the time of the next step, the run question.
 // Promise: each is that of the definitions of `rules`, for the cell that the flat column lays out and the table that the columns hold.
 // Internal to our crates: a call refuses first, and shows what is required here.
+#![tactic(auto)]
+
 mod entries;
 pub mod least;
 mod places;
@@ -23,7 +25,7 @@ use operations::read;
 // The time, the used count, and for each node record the entries of its value and of its next change. Places past the node
 // records are not looked at.
 #[repr(C)]
-#[derive(Drop)]
+#[derive(Clone, Copy)]
 pub struct Run {
     pub time: u32,
     pub used: u32,
@@ -32,7 +34,7 @@ pub struct Run {
 }
 
 // The answer of a run question.
-#[derive(Drop)]
+#[derive(Clone, Copy)]
 pub struct Wire {
     pub value: u32,
     pub change: u32,

@@ -1,12 +1,14 @@
 // The numbers given to the editor: why a call is refused, and what it is answered where it carries nothing else.
 // Promise: every refusal and every reply has its number of document 01, as document 02 adds to them, by one definition (specs/Number.antt).
 // Knows nothing of cells, tables or runs.
+#![tactic(auto)]
+
 ghost use Rattle.std.specs.Prelude.{◌≡◌};
 ghost use Rattle.refusal.specs.Number.{refusal_number, reply_number};
 ghost use Rattle.refusal.specs.Answer.{refuses as refusesOf};
 
 // The conditions of document 01's table "Numbers given to the editor", by its trade words, and document 02's.
-#[derive(Drop)]
+#[derive(Clone, Copy)]
 pub enum Refusal {
     Length,
     Header,
@@ -22,7 +24,7 @@ pub enum Refusal {
 }
 
 // The answer of a call that gives nothing besides.
-#[derive(Drop)]
+#[derive(Clone, Copy)]
 pub enum Reply {
     Done,
     Refused(Refusal),

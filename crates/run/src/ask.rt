@@ -21,7 +21,7 @@ use refusal::{Refusal, Reply};
 use table::{index_len, lengths_legal, sound};
 
 // The reply, a node's value and its next change at a pattern, 0 with a refusal.
-#[derive(Drop)]
+#[derive(Clone, Copy)]
 pub struct Asked {
     pub reply: Reply,
     pub value: u32,

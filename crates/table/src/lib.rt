@@ -2,6 +2,8 @@
 // Promise: an entry is found, or added once, exactly as the definitions of `diagram` say; so is soundness, and a fresh table.
 // The index is chained: `index` has a head for each bucket and a link for each entry (specs/Index.antt). Whoever calls sees only
 // that the columns and the index hold a table (specs/Holds.antt).
+#![tactic(auto)]
+
 ghost use Rattle.std.specs.Prelude.{◌≡◌, [], ◌∷◌, ◌+◌, ◌/◌, ◌<◌, ◌≤◌, length, drop, replicate};
 ghost use Rattle.refusal.specs.Answer.{reply_of};
 ghost use Rattle.lists.specs.Padded.{padded};
@@ -18,14 +20,14 @@ ghost use Rattle.table.specs.Steps.{part_in, three_terminals, Entered, Filled};
 use refusal::{Refusal, Reply};
 
 // Whether storing goes on, or why it stopped.
-#[derive(Drop)]
+#[derive(Clone, Copy)]
 pub enum Stop {
     Going,
     Full,
 }
 
 // What storing answers: whether it stopped; else the entry and the new used count.
-#[derive(Drop)]
+#[derive(Clone, Copy)]
 pub struct Put {
     pub stop: Stop,
     pub entry: u32,

@@ -1,6 +1,8 @@
 // Words and decimal numbers as bytes: written into a lent buffer from a place on, and a number read from a text.
 // Promise: each put function leaves the buffer with its bytes written at the place (specs/Written.antt), every other byte as it was, and answers where it ended.
 // Lines of the programs and saved files are made of these; knows nothing of cells, and reads and prints nothing.
+#![tactic(auto)]
+
 ghost use Rattle.std.specs.Prelude.{◌≡◌, [], ◌∷◌, ◌+◌, ◌≤◌, length};
 ghost use Rattle.text.specs.Decimal.{decimal, spaced, ended};
 ghost use Rattle.text.specs.Written.{Wrote};
@@ -64,7 +66,7 @@ pub fn put_ended(out: &mut [u8], at: usize, n: u32) -> usize
 }
 
 // A number within 32 bits, a larger one, or any other text.
-#[derive(Drop)]
+#[derive(Clone, Copy)]
 pub enum Parsed {
     Number(u32),
     Large,

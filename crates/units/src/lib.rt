@@ -1,13 +1,15 @@
 // Ohms, femtofarads and picoseconds as types of their own, and the arithmetic of step rules 4 to 7 (document 01; document 02, wish 3).
 // Promise: each operation gives what its definition in specs/Rules.antt says; resistance, capacitance and time meet only in `delay`.
 // Infinite resistance is a case of its own and never a number; an arm that would exceed the ceiling says so. Work is done in 64 bits.
+#![tactic(auto)]
+
 ghost use Rattle.std.specs.Prelude.{◌≡◌, ◌+◌, ◌*◌, ◌^◌, ◌≤◌, ◌<◌};
 ghost use Rattle.units.specs.declared.Resistance.TheVariants.{Finite};
 ghost use Rattle.units.specs.Units.{ohms};
 ghost use Rattle.units.specs.Range.{AtMost, Positive, Divisible};
 ghost use Rattle.units.specs.Rules.{ceil_div, ceiling, bounded as boundedOf, arm_side, delay_arm, parallel as parallelOf, joined as joinedOf, later as laterOf, share as share_of, delay as delay_of};
 
-#[derive(Drop)]
+#[derive(Clone, Copy)]
 pub struct Ohms(pub u32);
 
 impl Ohms {
@@ -15,10 +17,10 @@ impl Ohms {
     pub const CEILING: u32 = 1000000000;
 }
 
-#[derive(Drop)]
+#[derive(Clone, Copy)]
 pub struct Femtofarads(pub u32);
 
-#[derive(Drop)]
+#[derive(Clone, Copy)]
 pub struct Picoseconds(pub u64);
 
 impl Picoseconds {
@@ -32,14 +34,14 @@ impl Picoseconds {
 }
 
 // The resistance from a node to a value: infinite where nothing leads there.
-#[derive(Drop)]
+#[derive(Clone, Copy)]
 pub enum Resistance {
     Infinite,
     Finite(Ohms),
 }
 
 // What an arm says of a side: its resistance, or that this would exceed the ceiling.
-#[derive(Drop)]
+#[derive(Clone, Copy)]
 pub enum Bounded {
     Within(Resistance),
     Exceeds,

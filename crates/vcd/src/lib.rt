@@ -2,6 +2,8 @@
 // lines written into a lent buffer from a place on.
 // Promise: each function leaves the buffer with exactly the bytes of specs/Lines.antt at the place, every other byte as it was, and answers where
 // they end. What a viewer reads off a dump is what the run question answers (specs/Told.antt). Crate waveform runs a cell and calls these.
+#![tactic(auto)]
+
 ghost use Rattle.std.specs.Prelude.{◌≡◌, [], cond, ◌+◌, ◌<◌, ◌≤◌, length, eqb};
 ghost use Rattle.format.specs.Legal.{most_nodes};
 ghost use Rattle.text.specs.Written.{Wrote};

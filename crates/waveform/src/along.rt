@@ -13,14 +13,14 @@ use plain::{State, step, time};
 use vcd::put_moment;
 
 // The time of the last step, and the state after it.
-#[derive(Drop)]
+#[derive(Clone, Copy)]
 pub struct Moment {
     pub time: u32,
     pub state: State,
 }
 
 // After a start or a step: where its lines end, and the moment. Where it exceeds the ceiling, the moment is of no account.
-#[derive(Drop)]
+#[derive(Clone, Copy)]
 pub struct Gone {
     pub exceeds: bool,
     pub end: usize,

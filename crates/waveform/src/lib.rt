@@ -2,6 +2,8 @@
 // Promise: for every file, pattern and buffer the answer is that of crate vcd's specs/Dump.antt, by its number, its length and each byte.
 // Nothing is required of a caller: the file's refusals, 9, 11, then 8 for the room. A run is gone along twice, once to measure and once to write, and
 // no more of it is held than a moment.
+#![tactic(auto)]
+
 pub mod along;
 mod measure;
 pub mod write;

@@ -14,7 +14,7 @@ const STEP: usize = 96;
 // Room for the declarations and the values at the start.
 const START: usize = 1024;
 
-#[derive(Drop)]
+#[derive(Clone, Copy)]
 pub struct Measure {
     pub exceeds: bool,
     pub length: u32,

@@ -1,6 +1,8 @@
 // Functions of what touches and of what is kept, as entries of a second lent table.
 // Promise: an answer that did not stop gives an entry with the numbers said, in a sound extension of the table; one that did comes only where
 // such an extension takes every row (specs/Grown.antt).
+#![tactic(auto)]
+
 ghost use Rattle.std.specs.Prelude.{cond, ◌<◌, ◌≤◌, eqb};
 ghost use Rattle.diagram.specs.Table.{number_at};
 ghost use Rattle.diagram.specs.Held.{held};

@@ -11,7 +11,7 @@ use crate::{both, either};
 use table::{Put, Stop, stopped};
 
 // A row of the matrix, unless working it out stopped.
-#[derive(Drop)]
+#[derive(Clone, Copy)]
 pub struct Row {
     pub stop: Stop,
     pub used: u32,

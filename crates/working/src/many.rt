@@ -12,7 +12,7 @@ use cache::WORDS;
 use table::{Stop, stopped};
 
 // Entries by node number, unless making them stopped.
-#[derive(Drop)]
+#[derive(Clone, Copy)]
 pub struct Many {
     pub stop: Stop,
     pub used: u32,

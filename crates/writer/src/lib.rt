@@ -1,6 +1,8 @@
 // Cells saved as cell files (document 02, wish 1): the bytes of a cell, written into a lent buffer.
 // Promise: for every cell and every list of bytes the answer is that of crate format's specs/Saved.antt, by its number and by each byte.
 // Nothing is required of a caller who saves. A refusal, 8 for the room last of all, leaves the buffer as it was.
+#![tactic(auto)]
+
 mod chains;
 mod layout;
 
@@ -21,7 +23,7 @@ use refusal::{Refusal, Reply};
 use text::put_bytes;
 
 // What a call that saves answers: the file's length, zero with a refusal.
-#[derive(Drop)]
+#[derive(Clone, Copy)]
 pub struct Saving {
     pub reply: Reply,
     pub length: u32,
