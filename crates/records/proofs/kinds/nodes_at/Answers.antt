@@ -1,0 +1,21 @@
+use native.Mathlib.Omega.{arith}
+use borrow.Author.Rules.{rules}
+use Rattle.format.specs.File.{node_at}
+use Rattle.format.specs.Circuit.{no_node}
+use Rattle.records.proofs.Filled.{filled_none, filled_more, filled_done}
+use Rattle.records.proofs.kinds.nodes_at.Goals as goal
+
+pub loop-k-init : goal.loop-k-init
+loop-k-init c =
+    (omega arith, filled_none (node_at c.args.file.now) 24 no_node 0 c.args.records)
+
+pub node_at-requires : goal.node_at-requires
+node_at-requires c = c.requires.1.within c.loop-k.k c.loop-k-test.true
+
+pub loop-k-preserved : goal.loop-k-preserved
+loop-k-preserved c =
+    (omega arith, filled_more (node_at c.args.file.now) 24 no_node 0 c.args.records _ _ _ c.loop-k.invariant.1 c.node_at.ensures (omega arith) (search rules))
+
+pub returns : goal.returns
+returns c =
+    filled_done (node_at c.args.file.now) 24 no_node 0 c.args.records _ _ _ c.loop-k.invariant.1 c.loop-k.invariant.0 c.loop-k-test.false

@@ -1,0 +1,38 @@
+use mathlib.Core.Path.{◌∙◌, ap}
+use Prim.Native.Nat.{ℕ}
+use native.Mathlib.Omega.{arith}
+use lib.ListN.{length, get_or}
+use Rattle.format.specs.Circuit.{no_node}
+use Rattle.format.specs.Saved.{node_bytes}
+use Rattle.format.proofs.SavedRecord.{node_bytes_length}
+use Rattle.cell.specs.Value.{firsts}
+use Rattle.cell.proofs.Firsts.{length_firsts, firsts_at}
+use Rattle.writer.proofs.Remains.{remain_all, remain_room, remain_fewer, remain_none}
+use Rattle.writer.proofs.chains.put_nodes.Goals as goal
+
+pub loop-i-init : goal.loop-i-init
+loop-i-init c = remain_all node_bytes node_bytes_length c.args.r (firsts c.args.count no_node c.args.nodes) c.args.out.now c.args.at
+
+pub put_bytes-end-requires : goal.put_bytes-end-requires
+put_bytes-end-requires c =
+    let n = length_firsts no_node c.args.count c.args.nodes in
+    let b = ap length c.node_bytes-bytes.ensures ∙ node_bytes_length _ _ in
+    omega
+    (arith, b, remain_room node_bytes node_bytes_length c.args.r (firsts c.args.count no_node c.args.nodes) c.loop-i.invariant (omega (arith, c.loop-i-test.true)) (omega (arith, c.requires.2)))
+
+pub loop-i-preserved : goal.loop-i-preserved
+loop-i-preserved c =
+    let l = c.loop-i in
+    let h = c.loop-i-test.true in
+    let n = length_firsts no_node c.args.count c.args.nodes in
+    remain_fewer node_bytes node_bytes_length c.args.r (firsts c.args.count no_node c.args.nodes) no_node l.invariant (omega (arith, h)) (omega (arith, c.requires.2))
+    (rw (n, firsts_at no_node c.args.count c.args.nodes l.i h)
+    (c.node_bytes-bytes.ensures ∙ ap (λ (next : ℕ). node_bytes next (get_or c.args.nodes l.i no_node)) c.first_from-next.ensures)) c.put_bytes-end.ensures
+
+pub shape_of-out : goal.shape_of-out
+shape_of-out c = c.loop-i.invariant.same
+
+pub returns : goal.returns
+returns c =
+    let n = length_firsts no_node c.args.count c.args.nodes in
+    remain_none node_bytes node_bytes_length c.args.r (firsts c.args.count no_node c.args.nodes) c.loop-i.invariant (omega (arith, c.loop-i-test.false))
