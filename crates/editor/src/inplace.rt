@@ -12,7 +12,7 @@ use refusal::Reply;
 use run::go::on_file;
 
 // The number of a step, and the record to store back: with a refusal the one that was given.
-#[derive(Drop)]
+#[derive(Clone, Copy)]
 struct Advanced {
     number: u32,
     run: Run,

@@ -1,6 +1,8 @@
 // The calls that the layout editor makes from C: numbers, bytes and lent columns (document 01, "Numbers given to the editor").
 // Promise: each call has no condition; its number and every lent column afterwards are those of a definition in specs/.
 // Thin: the work is done by the crates below. include/sts.h documents the calls for C.
+#![tactic(auto)]
+
 pub mod inplace;
 pub mod runs;
 pub mod saves;

@@ -18,7 +18,7 @@ use refusal::refuses;
 use run::go::on_cell;
 
 // Where the lines end, the run afterwards, and whether there is more: a refused call is the last.
-#[derive(Drop)]
+#[derive(Clone, Copy)]
 pub struct Listed {
     pub end: usize,
     pub run: Run,

@@ -1,6 +1,8 @@
 // What the programs print that write the file of a cell: the file to standard output, or a message to standard error.
 // Promise: the bytes of both are those of the call that saved (specs/Printed.antt), and a refusal puts nothing on standard output.
 // Where standard output does not take all bytes, standard error says `not written`.
+#![tactic(auto)]
+
 ghost use Rattle.std.specs.Prelude.{◌≡◌, ◌≤◌, length, take};
 ghost use Rattle.fields.specs.Line.{line_room};
 ghost use Rattle.output.specs.Printed.{reply_line, SavingPrinted};
@@ -14,7 +16,7 @@ const OUT: i32 = 1;
 const ERRORS: i32 = 2;
 
 // How many bytes go to standard output, and how many to standard error.
-#[derive(Drop)]
+#[derive(Clone, Copy)]
 pub struct Printed {
     pub output: usize,
     pub errors: usize,

@@ -1,6 +1,8 @@
 // Reads a cell file on standard input and writes it in its saved form to standard output, or its refusal to standard error.
 // What goes where is `saved_output` and `saved_errors` (crate output's specs/Printed.antt) of the bytes that were read, by the contract of `put_saved`.
 // Nothing goes to standard output where the file is refused.
+#![tactic(auto)]
+
 ghost use Rattle.std.specs.Prelude.{◌≤◌, length};
 ghost use Rattle.format.specs.File.{read_cell};
 ghost use Rattle.fields.specs.Line.{line_room};

@@ -1,5 +1,7 @@
 // Reads a cell file on standard input and prints it, every field of every record in chain order, or its refusal.
 // What is printed is `shown_file` of the bytes that were read, by the contract of `put_shown` (crate fields).
+#![tactic(auto)]
+
 use fields::file::put_shown;
 
 fn main() {

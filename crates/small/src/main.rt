@@ -1,6 +1,8 @@
 // Writes the file of the small cell at the place that its argument names (document 02, wish 12), or a message to standard error.
 // What goes where is `small_output` and `small_errors` (specs/Asked.antt) of the argument, by the contract of `put_small`.
 // One argument, digits alone: any other, more or none give a usage line, and a number past the last place, however long, is `refused 9`.
+#![tactic(auto)]
+
 ghost use Rattle.std.specs.Prelude.{◌≤◌, length};
 ghost use Rattle.refusal.specs.declared.Refusal.TheVariants.{Question};
 ghost use Rattle.text.specs.Number.{parsed};

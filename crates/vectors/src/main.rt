@@ -1,4 +1,6 @@
 // Prints the listing of each named cell file. Arguments: a table length in entries, 3 to 65,536, then names, then another length, and so on.
+#![tactic(auto)]
+
 ghost use Rattle.std.specs.Prelude.{◌≤◌};
 
 use listing::argument::table_length;

@@ -1,5 +1,7 @@
 // Reads a cell file on standard input and prints its listing, with a fresh table and a working table of 4,096 entries each.
 // One argument, a number from 3 to 65,536, is the table's length in place of 4,096.
+#![tactic(auto)]
+
 ghost use Rattle.std.specs.Prelude.{◌≤◌};
 
 use listing::argument::table_length;
