@@ -7,26 +7,30 @@ use fields::line::{put_cell, put_refused};
 use format::Header;
 use record::Run;
 use refusal::{Refusal, Reply};
-
-const OUT: i32 = 1;
+use std::io::{Read, Write};
+use system::read_full;
 
 // The used count of a fresh table.
 const FRESH: u32 = 3;
 
-fn print_cell(h: Header) {
+// Each step takes at least a picosecond, so there are no more than the horizon has, and one refusal.
+const MOST_STEPS: u32 = 1000001;
+
+fn print_cell<W: Write>(output: &mut W, h: Header) {
     let mut out = [0u8; 96];
     let end = put_cell(&mut out, 0, h);
-    io::write_all(OUT, &out[..end]);
+    let _ = output.write_all(&out[..end]);
 }
 
-fn print_refusal(why: Refusal) {
+fn print_refusal<W: Write>(output: &mut W, why: Refusal) {
     let mut out = [0u8; 96];
     let end = put_refused(&mut out, 0, why);
-    io::write_all(OUT, &out[..end]);
+    let _ = output.write_all(&out[..end]);
 }
 
-// The steps after a start. Each takes at least a picosecond, so there are no more than the horizon has, and one refusal.
-fn print_steps(
+// The steps after a start.
+fn print_steps<W: Write>(
+    output: &mut W,
     cell: Cell,
     letter: &mut [u32],
     low: &mut [u32],
@@ -38,22 +42,21 @@ fn print_steps(
 ) {
     let mut out = [0u8; 4096];
     let mut now = r;
-    let mut steps: u32 = 0;
-    while steps <= 1000000 {
+    for steps in 0..MOST_STEPS {
         let listed = list_step(
             cell, letter, low, high, now, wletter, wlow, whigh, steps, &mut out, 0,
         );
         let end = listed.end;
-        io::write_all(OUT, &out[..end]);
+        let _ = output.write_all(&out[..end]);
         if !listed.more {
             return;
         }
         now = listed.run;
-        steps += 1;
     }
 }
 
-fn print_run(
+fn print_run<W: Write>(
+    output: &mut W,
     cell: Cell,
     letter: &mut [u32],
     low: &mut [u32],
@@ -67,15 +70,16 @@ fn print_run(
         cell, letter, low, high, FRESH, wletter, wlow, whigh, &mut out, 0,
     );
     let end = listed.end;
-    io::write_all(OUT, &out[..end]);
+    let _ = output.write_all(&out[..end]);
     if listed.more {
         let r = listed.run;
-        print_steps(cell, letter, low, high, r, wletter, wlow, whigh);
+        print_steps(output, cell, letter, low, high, r, wletter, wlow, whigh);
     }
 }
 
 // The listing of a cell file, with a table and a working table of the lengths lent.
-fn print_listing(
+fn print_listing<W: Write>(
+    output: &mut W,
     file: &[u8],
     letter: &mut [u32],
     low: &mut [u32],
@@ -89,21 +93,21 @@ fn print_listing(
     match reply {
         Reply::Done => {
             let cell = reading.cell;
-            print_cell(cell.header);
+            print_cell(output, cell.header);
             table::fresh(letter, low, high);
-            print_run(cell, letter, low, high, wletter, wlow, whigh);
+            print_run(output, cell, letter, low, high, wletter, wlow, whigh);
         }
-        Reply::Refused(why) => print_refusal(why),
+        Reply::Refused(why) => print_refusal(output, why),
     }
 }
 
-// The listing of what a descriptor reads, with a table of `size` entries and a working table of 4,096.
-pub fn print_file(fd: i32, size: usize)
+// The listing of what a stream gives, with a table of `size` entries and a working table of 4,096.
+pub fn print_file<R: Read, W: Write>(input: &mut R, output: &mut W, size: usize)
     requires { size ≤ 65536 }
 {
-    let mut space = io::buffer();
+    let mut space = [0u8; 4096];
     // longer than any cell: what is left of a longer input changes no answer
-    let n = io::read_full(fd, &mut space);
+    let n = read_full(input, &mut space);
     let mut letter = [0u32; 65536];
     let mut low = [0u32; 65536];
     let mut high = [0u32; 65536];
@@ -111,6 +115,7 @@ pub fn print_file(fd: i32, size: usize)
     let mut work_low = [0u32; 4096];
     let mut work_high = [0u32; 4096];
     print_listing(
+        output,
         &space[..n],
         &mut letter[..size],
         &mut low[..size],

@@ -9,11 +9,8 @@ ghost use Rattle.output.specs.Printed.{reply_line, SavingPrinted};
 
 use fields::line::put_refused;
 use refusal::Reply;
+use std::io::Write;
 use writer::Saving;
-
-const OUT: i32 = 1;
-
-const ERRORS: i32 = 2;
 
 // How many bytes go to standard output, and how many to standard error.
 #[derive(Clone, Copy)]
@@ -47,13 +44,19 @@ pub fn put_saving(errors: &mut [u8], saving: Saving) -> Printed
 }
 
 // Prints so many bytes of both buffers.
-pub fn print(out: &[u8], errors: &[u8], printed: Printed)
+pub fn print<O: Write, E: Write>(
+    stdout: &mut O,
+    stderr: &mut E,
+    out: &[u8],
+    errors: &[u8],
+    printed: Printed,
+)
     requires { (printed.output ≤ length out.now) × (printed.errors ≤ length errors.now) }
 {
     let output = printed.output;
     let messages = printed.errors;
-    if !io::write_all(OUT, &out[..output]) {
-        io::write_all(ERRORS, b"not written\n");
+    if stdout.write_all(&out[..output]).is_err() {
+        let _ = stderr.write_all(b"not written\n");
     }
-    io::write_all(ERRORS, &errors[..messages]);
+    let _ = stderr.write_all(&errors[..messages]);
 }

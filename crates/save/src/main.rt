@@ -10,6 +10,7 @@ ghost use Rattle.output.specs.Printed.{most_bytes, saved_output, saved_errors, P
 
 use cell::Cell;
 use output::{Printed, print, put_saving};
+use system::read_full;
 use writer::save_file;
 
 fn put_saved(out: &mut [u8], errors: &mut [u8], file: &[u8]) -> Printed
@@ -20,12 +21,12 @@ fn put_saved(out: &mut [u8], errors: &mut [u8], file: &[u8]) -> Printed
     put_saving(errors, saving)
 }
 
-fn main() {
-    let mut space = io::buffer();
+fn main(rt: HostRuntime) {
+    let mut space = [0u8; 4096];
     // longer than any cell: what is left of a longer input changes no answer (proofs/Prefix.antt)
-    let n = io::read_full(0, &mut space);
+    let n = read_full(&mut rt.stdin(), &mut space);
     let mut out = [0u8; Cell::MOST_BYTES];
     let mut errors = [0u8; 96];
     let printed = put_saved(&mut out, &mut errors, &space[..n]);
-    print(&out, &errors, printed);
+    print(&mut rt.stdout(), &mut rt.stderr(), &out, &errors, printed);
 }

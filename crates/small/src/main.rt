@@ -16,6 +16,8 @@ use catalog::save_small;
 use cell::Cell;
 use output::{Printed, print, put_saving};
 use refusal::Refusal;
+use std::env::Env;
+use system::has_argument;
 use text::{Parsed, parse, put_bytes};
 use writer::refused;
 
@@ -64,20 +66,20 @@ fn put_small(out: &mut [u8], errors: &mut [u8], text: &[u8]) -> Printed
 }
 
 // The one argument, or nothing.
-fn argument(space: &mut [u8]) -> usize
+fn argument<E: Env>(env: &E, space: &mut [u8]) -> usize
     ensures { result ≤ length space.new }
 {
-    if os::arg_count() != 2 {
+    if has_argument(env, 2) {
         return 0;
     }
-    os::arg(1, space)
+    system::argument(env, 1, space)
 }
 
-fn main() {
+fn main(rt: HostRuntime) {
     let mut space = [0u8; LONGEST];
-    let n = argument(&mut space);
+    let n = argument(&rt, &mut space);
     let mut out = [0u8; Cell::MOST_BYTES];
     let mut errors = [0u8; 96];
     let printed = put_small(&mut out, &mut errors, &space[..n]);
-    print(&out, &errors, printed);
+    print(&mut rt.stdout(), &mut rt.stderr(), &out, &errors, printed);
 }

@@ -5,46 +5,52 @@ ghost use Rattle.std.specs.Prelude.{◌≤◌};
 
 use listing::argument::table_length;
 use listing::print::print_file;
+use std::fs::File;
+use std::io::Write;
+use std::rt::{Env, Files};
+use std::str;
+use system::has_argument;
 
-const OUT: i32 = 1;
-
-fn main() {
-    let count = os::arg_count();
+fn main(rt: HostRuntime) {
     let mut size: usize = 4096;
-    let mut i: usize = 1;
-    while i < count {
-        size = argument(i, size);
-        i += 1;
+    for number in 1..usize::MAX {
+        if !has_argument(&rt, number) {
+            break;
+        }
+        size = argument(&rt, &mut rt.stdout(), number, size);
     }
 }
 
 // A number is a table length for the names after it; a name is a file whose listing is printed.
-fn argument(i: usize, size: usize) -> usize
+fn argument<R: Env + Files, W: Write>(rt: &R, output: &mut W, number: usize, size: usize) -> usize
     requires { size ≤ 65536 }
     ensures { result ≤ 65536 }
 {
     let mut space = [0u8; 4096];
-    let n = os::arg(i, &mut space);
+    let n = system::argument(rt, number, &mut space);
     let length = table_length(&space[..n]);
     if length != 0 {
         return length;
     }
-    print_named(&space[..n], size);
+    print_named(rt, output, &space[..n], size);
     size
 }
 
-fn print_named(name: &[u8], size: usize)
+fn print_named<R: Files, W: Write>(files: &R, output: &mut W, name: &[u8], size: usize)
     requires { size ≤ 65536 }
 {
-    io::write_all(OUT, name);
-    io::write_all(OUT, b" ");
-    io::print_decimal(OUT, size as u64);
-    io::write_all(OUT, b"\n");
-    let fd = os::open_read(name);
-    if fd < 0 {
-        io::write_all(OUT, b"no such file\n");
-        return;
+    let _ = output.write_all(name);
+    let _ = writeln!(output, " {size}");
+    match open(files, name) {
+        Some(mut file) => print_file(&mut file, output, size),
+        None => {
+            let _ = output.write_all(b"no such file\n");
+        }
     }
-    print_file(fd, size);
-    libc::close(fd);
+}
+
+// The file of this name, if there is one: a path is text.
+fn open<R: Files>(files: &R, name: &[u8]) -> Option<R::File> {
+    let path = str::from_utf8(name).ok()?;
+    File::open(files, path).ok()
 }

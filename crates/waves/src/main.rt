@@ -6,32 +6,32 @@ ghost use Rattle.std.specs.Prelude.{◌≤◌};
 
 use listing::argument::table_length;
 use listing::print::print_file;
+use std::env::Env;
+use std::io::Write;
+use system::{argument, has_argument};
 
-const IN: i32 = 0;
-
-const ERROR: i32 = 2;
-
-fn main() {
-    let size = asked_length();
+fn main(rt: HostRuntime) {
+    let size = asked_length(&rt);
     if size == 0 {
-        io::write_all(ERROR, b"usage: waves [table length from 3 to 65536]\n");
+        let _ = rt
+            .stderr()
+            .write_all(b"usage: waves [table length from 3 to 65536]\n");
         return;
     }
-    print_file(IN, size);
+    print_file(&mut rt.stdin(), &mut rt.stdout(), size);
 }
 
 // The table's length by the arguments, 4,096 without one, or 0 where they name none.
-fn asked_length() -> usize
+fn asked_length<E: Env>(env: &E) -> usize
     ensures { result ≤ 65536 }
 {
-    let count = os::arg_count();
-    if count <= 1 {
+    if !has_argument(env, 1) {
         return 4096;
     }
-    if 2 < count {
+    if has_argument(env, 2) {
         return 0;
     }
     let mut space = [0u8; 64];
-    let n = os::arg(1, &mut space);
+    let n = argument(env, 1, &mut space);
     table_length(&space[..n])
 }
