@@ -33,8 +33,7 @@ number-change-requires c =
 pub returns : goal.returns
 unfolding net_circuit
 returns c =
-    let full : (length c.args.r.values ≡ 24) × (length c.args.r.changes ≡ 24) = ((search rules, search rules)) in
-    (
+    let full : (length c.args.r.values ≡ 24) × (length c.args.r.changes ≡ 24) = ((search rules, search rules)) in (
       c.number-value.ensures ∙ value_is c.args.net.now c.args.letter.now c.args.low.now c.args.high.now c.args.r (full).0 (full).1 c.requires.0.within.nodes c.requires.1 c.requires.2 c.args.n c.args.p (omega arith) (omega arith),
       c.number-change.ensures ∙ change_is c.args.net.now c.args.letter.now c.args.low.now c.args.high.now c.args.r (full).0 (full).1 c.requires.0.within.nodes c.requires.1 c.requires.2 c.args.n c.args.p (omega arith) (omega arith),
     )

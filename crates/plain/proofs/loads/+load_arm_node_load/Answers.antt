@@ -132,12 +132,12 @@ node_load-loop-k-preserved t c =
     let some_left : 1 ≤ c.args.allowance = omega (arith, c.if-allowance-eq0.false) in
     let Goal : Load → Type 0 = λ v. LoadTurn c.args.net.now c.args.leaf.now c.args.allowance c.args.sharing c.args.new c.args.from c.args.n (loop.k + 1) (load_of v) in
     elim c.if-is_arm.branch [
-        node_load-then-is_arm w ↦ subst Goal (sym w.load-is)
-            (subst (LoadTurn c.args.net.now c.args.leaf.now c.args.allowance c.args.sharing c.args.new c.args.from c.args.n (loop.k + 1))
-            (sym (w.join_loads-load.ensures ∙ ap (join_loads (load_of loop.load)) w.load_arm-one.ensures))
-            (load_turns c.args.net.now c.args.leaf.now c.requires.ready c.args.allowance c.args.from c.args.n some_left c.requires.n_bound
-            loop.k c.arm_at-i.result c.is_arm.result left c.arm_at-i.ensures.0 c.arm_at-i.ensures.1
-            c.is_arm.ensures w.if-is_arm.true c.args.sharing c.args.new (load_of loop.load) loop.invariant))
+      | node_load-then-is_arm w ↦ subst Goal (sym w.load-is)
+          (subst (LoadTurn c.args.net.now c.args.leaf.now c.args.allowance c.args.sharing c.args.new c.args.from c.args.n (loop.k + 1))
+          (sym (w.join_loads-load.ensures ∙ ap (join_loads (load_of loop.load)) w.load_arm-one.ensures))
+          (load_turns c.args.net.now c.args.leaf.now c.requires.ready c.args.allowance c.args.from c.args.n some_left c.requires.n_bound
+          loop.k c.arm_at-i.result c.is_arm.result left c.arm_at-i.ensures.0 c.arm_at-i.ensures.1
+          c.is_arm.ensures w.if-is_arm.true c.args.sharing c.args.new (load_of loop.load) loop.invariant))
       | node_load-else-is_arm w ↦ subst Goal (sym w.load-is) (turn_passes loop.invariant left c.arm_at-i.result c.arm_at-i.ensures.0 c.is_arm.result c.is_arm.ensures w.if-is_arm.false)
     ]
 

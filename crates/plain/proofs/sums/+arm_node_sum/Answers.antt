@@ -171,12 +171,12 @@ node_sum-loop-k-preserved t c =
     let some_left : 1 ≤ c.args.allowance = omega (arith, c.if-allowance-eq0.false) in
     let Goal : Sum → Type 0 = λ v. SumTurn c.args.net.now c.args.leaf.now c.args.allowance c.args.from c.args.n (loop.k + 1) (sum_of v) in
     elim c.if-is_arm.branch [
-        node_sum-then-is_arm+in-Within w ↦ subst Goal (sym w.sum-is)
-            (subst (SumTurn c.args.net.now c.args.leaf.now c.args.allowance c.args.from c.args.n (loop.k + 1))
-            (sym (w.join_sums-sum.ensures ∙ ap (join_sums (sum_of loop.sum)) (arm_is w.in-Within.is w.arm-one.ensures)))
-            (sum_turns c.args.net.now c.args.leaf.now c.requires.ready c.args.allowance c.args.from c.args.n some_left c.requires.n_bound
-            loop.k c.arm_at-i.result c.is_arm.result left c.arm_at-i.ensures.0 c.arm_at-i.ensures.1
-            c.is_arm.ensures w.if-is_arm.true (sum_of loop.sum) loop.invariant))
+      | node_sum-then-is_arm+in-Within w ↦ subst Goal (sym w.sum-is)
+          (subst (SumTurn c.args.net.now c.args.leaf.now c.args.allowance c.args.from c.args.n (loop.k + 1))
+          (sym (w.join_sums-sum.ensures ∙ ap (join_sums (sum_of loop.sum)) (arm_is w.in-Within.is w.arm-one.ensures)))
+          (sum_turns c.args.net.now c.args.leaf.now c.requires.ready c.args.allowance c.args.from c.args.n some_left c.requires.n_bound
+          loop.k c.arm_at-i.result c.is_arm.result left c.arm_at-i.ensures.0 c.arm_at-i.ensures.1
+          c.is_arm.ensures w.if-is_arm.true (sum_of loop.sum) loop.invariant))
       | node_sum-else-is_arm w ↦ subst Goal (sym w.sum-is) (turn_passes loop.invariant left c.arm_at-i.result c.arm_at-i.ensures.0 c.is_arm.result c.is_arm.ensures w.if-is_arm.false)
     ]
 

@@ -20,12 +20,11 @@ returns-then-not-blank_at c =
     (sym c.blank_at.ensures ∙ not-true _ c.if-not-blank_at.true-raw)
 
 pub loop-k-preserved : goal.loop-k-preserved
-loop-k-preserved c =
-    (
-      omega arith,
-      every_more (blank_at c.args.file.now c.args.kind) 0 c.args.records _ (search rules) c.loop-k.invariant.1
-          (sym c.blank_at.ensures ∙ not-false _ c.if-not-blank_at.false-raw),
-    )
+loop-k-preserved c = (
+  omega arith,
+  every_more (blank_at c.args.file.now c.args.kind) 0 c.args.records _ (search rules) c.loop-k.invariant.1
+      (sym c.blank_at.ensures ∙ not-false _ c.if-not-blank_at.false-raw),
+)
 
 pub returns : goal.returns
 returns c =
