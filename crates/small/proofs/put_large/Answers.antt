@@ -1,0 +1,9 @@
+-- `put_large` meets its contract.
+use Rattle.small.proofs.Messages.{refusal_message}
+use Rattle.small.proofs.put_large.Goals as goal
+
+pub returns : goal.returns
+returns c =
+    let r = c.refused-saving in
+    let p = c.put_saving in
+    refusal_message _ r.result p.result r.ensures p.ensures
