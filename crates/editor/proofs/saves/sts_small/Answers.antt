@@ -1,0 +1,9 @@
+-- `sts_small` hands over what `save_small` answers.
+use Rattle.editor.proofs.SaveCell.{save_call}
+use Rattle.editor.proofs.saves.sts_small.Goals as goal
+
+pub returns : goal.returns
+returns c =
+    let s = c.save_small-saving in
+    let n = c.give_length.ensures in
+    save_call _ s.result s.ensures n.0 n.1
