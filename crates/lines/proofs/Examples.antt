@@ -6,9 +6,8 @@ use Rattle.lists.specs.Tests.{count_below}
 use Rattle.diagram.specs.Operation.{count}
 use Rattle.rules.proofs.Opened.{opened}
 use Rattle.text.specs.Decimal.{decimal, digits_within}
-use Rattle.text.specs.Lines.{lines_of}
 use Rattle.fields.specs.Line.{cell_line, refused_line}
-use Rattle.lines.specs.Listing.{listing, cell_lines, run_lines, steps_from}
+use Rattle.lines.specs.Listing.{listing, cell_lines, run_lines, steps_from, lines_of}
 
 -- the inverter's file, a record to a line
 abbrev inverter : List ℕ

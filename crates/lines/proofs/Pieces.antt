@@ -9,11 +9,11 @@ use native.Mathlib.Omega.{arith}
 use lib.ListN.{length, take, length-append, take-append-drop}
 use Rattle.format.specs.Legal.{most_nodes}
 use Rattle.text.specs.Decimal.{decimal}
-use Rattle.text.specs.Lines.{lines_of}
 use Rattle.text.specs.Written.{written, Wrote}
 use Rattle.text.proofs.Decimal.{decimal_short}
 use Rattle.text.proofs.Written.{wrote_then, wrote_room, wrote_length}
 use Rattle.fields.specs.Line.{LineWrote}
+use Rattle.lines.specs.Listing.{lines_of}
 use Rattle.lines.specs.Lines.{line_room, call_room, Put}
 
 -- a number of 32 bits and a byte behind it

@@ -10,9 +10,8 @@ use Rattle.diagram.specs.Table.{Table}
 use Rattle.diagram.specs.Operation.{count}
 use Rattle.functions.specs.Open.{Legible}
 use Rattle.record.specs.declared.Run.{Run}
-use Rattle.text.specs.Lines.{lines_of}
 use Rattle.text.specs.Written.{Wrote}
-use Rattle.lines.specs.Listing.{node_line}
+use Rattle.lines.specs.Listing.{node_line, lines_of}
 
 -- no line is longer: three numbers of ten digits, each with a byte behind it
 abbrev pub line_room : ℕ

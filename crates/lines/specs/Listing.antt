@@ -11,7 +11,6 @@ use Rattle.diagram.specs.Store.{fresh}
 use Rattle.diagram.specs.Operation.{count}
 use Rattle.rules.specs.Run.{Moment, start_answer, time_after, step_answer}
 use Rattle.text.specs.Decimal.{spaced, ended}
-use Rattle.text.specs.Lines.{lines_of}
 use Rattle.fields.specs.Line.{cell_line, refused_line}
 
 -- a time, a node's number, and at how many patterns it is high
@@ -21,6 +20,11 @@ node_line time n high = spaced time ++ spaced n ++ ended high
 -- the line of node record i at a moment
 abbrev pub line_at : Circuit → Moment → ℕ → List ℕ
 line_at c m i = node_line m.run.time (first_node_number + i) (count c.letters m.table (get_or m.run.values i 0))
+
+-- the lines of the first n node records, in node order
+unfoldable pub lines_of : ℕ → (ℕ → List ℕ) → List ℕ
+lines_of zero line = []
+lines_of (suc n) line = lines_of n line ++ line n
 
 -- the start: every node record
 abbrev pub start_lines : Circuit → Moment → List ℕ

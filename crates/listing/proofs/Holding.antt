@@ -32,8 +32,7 @@ use Rattle.functions.specs.Open.{Legible}
 use Rattle.functions.proofs.Carry.{sound_legible}
 use Rattle.record.specs.declared.Run.{Run}
 use Rattle.record.specs.Record.{record_of}
-use Rattle.text.specs.Lines.{lines_of}
-use Rattle.lines.specs.Listing.{node_line, start_lines, step_lines}
+use Rattle.lines.specs.Listing.{node_line, start_lines, step_lines, lines_of}
 use Rattle.lines.specs.Lines.{node_lines, Entries}
 
 -- what an answered call holds in columns of a length

@@ -1,5 +1,5 @@
 pub mod Record
-pub mod Front
+pub mod Loops
 pub mod LeastBelow
 pub mod Entry
 pub mod Leasts

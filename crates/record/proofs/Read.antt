@@ -34,7 +34,7 @@ use Rattle.record.specs.Record.{run_of}
 use Rattle.record.specs.Moments.{moment_held}
 use Rattle.diagram.specs.Held.{held}
 use Rattle.record.specs.Numbers.{among, all_among, entry_among, entries_among, rests_at, least_among, after_now, scheduled_after}
-use Rattle.record.proofs.Front.{every_below}
+use Rattle.record.proofs.Loops.{every_below}
 use Rattle.record.proofs.LeastBelow.{least_never, least_min, least_constant, least_swap, soonest_at}
 use Rattle.record.proofs.Net.{input_at, times, times_count, time_at, inputs_below}
 

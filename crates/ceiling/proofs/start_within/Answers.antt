@@ -4,7 +4,7 @@ use Prim.Native.Nat.{◌<◌}
 use native.Mathlib.Omega.{arith}
 use Rattle.diagram.specs.Pattern.{patterns}
 use Rattle.net.specs.Net.{letters_place, at}
-use Rattle.lists.proofs.Loops.{loop_starts, loop_fails, loop_next, loop_ends}
+use Rattle.record.proofs.Loops.{loop_starts, loop_fails, loop_next, loop_ends}
 use Rattle.ceiling.proofs.Trying.{is_pattern, no_pattern, pattern_small, start_all}
 use Rattle.ceiling.proofs.start_within.Goals as goal
 

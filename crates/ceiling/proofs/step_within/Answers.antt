@@ -7,7 +7,7 @@ use Rattle.rules.specs.Step.{step_exceeds}
 use Rattle.net.specs.Net.{letters_place, at, net_circuit}
 use Rattle.record.specs.Record.{run_of}
 use Rattle.record.specs.Moments.{moment_held}
-use Rattle.lists.proofs.Loops.{loop_starts, loop_fails, loop_next, loop_ends}
+use Rattle.record.proofs.Loops.{loop_starts, loop_fails, loop_next, loop_ends}
 use Rattle.ceiling.proofs.Trying.{is_pattern, no_pattern, pattern_small, step_all}
 use Rattle.ceiling.proofs.step_within.Goals as goal
 

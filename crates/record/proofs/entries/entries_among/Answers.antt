@@ -1,7 +1,7 @@
 use native.Mathlib.Omega.{arith}
 use borrow.Author.Tests.{not-true, not-false}
 use Rattle.record.specs.Numbers.{entry_among}
-use Rattle.lists.proofs.Loops.{loop_starts, loop_fails, loop_next, loop_ends}
+use Rattle.record.proofs.Loops.{loop_starts, loop_fails, loop_next, loop_ends}
 use Rattle.record.proofs.entries.entries_among.Goals as goal
 
 pub loop-i-init : goal.loop-i-init

@@ -1,6 +1,6 @@
 use native.Mathlib.Omega.{arith}
 use borrow.Author.Tests.{not-true, not-false}
-use Rattle.lists.proofs.Loops.{loop_starts, loop_fails, loop_next, loop_ends}
+use Rattle.record.proofs.Loops.{loop_starts, loop_fails, loop_next, loop_ends}
 use Rattle.record.proofs.places.inputs_rest.Goals as goal
 
 pub loop-i-init : goal.loop-i-init
