@@ -49,8 +49,7 @@ fn advance_value(
 }
 
 // One step on the record behind `run`, which changes with an answer alone.
-#[unsafe(no_mangle)]
-pub extern "C" fn sts_advance(
+pub fn sts_advance(
     file: &[u8],
     letter: &mut [u32],
     low: &mut [u32],

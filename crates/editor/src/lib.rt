@@ -29,8 +29,7 @@ fn write_header(header: &mut [u32], h: Header)
 }
 
 // Reads a cell file: 0 and the header's five numbers N, M, E, K, H, or the refusal's number and nothing else.
-#[unsafe(no_mangle)]
-pub extern "C" fn sts_read(file: &[u8], header: &mut [u32]) -> u32
+pub fn sts_read(file: &[u8], header: &mut [u32]) -> u32
     ensures value { result ≡ answer_number (read_call file.now header.old) }
     ensures header_after { header.new ≡ header_after header.old (read_call file.now header.old) }
 {

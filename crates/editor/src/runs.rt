@@ -120,8 +120,7 @@ fn task_on(
 }
 
 // Starts a run in a table with `used` entries; what the record held is ignored.
-#[unsafe(no_mangle)]
-pub extern "C" fn sts_start(
+pub fn sts_start(
     file: &[u8],
     letter: &mut [u32],
     low: &mut [u32],
@@ -148,8 +147,7 @@ pub extern "C" fn sts_start(
 }
 
 // One step, to the earliest time over all patterns.
-#[unsafe(no_mangle)]
-pub extern "C" fn sts_step(
+pub fn sts_step(
     file: &[u8],
     letter: &mut [u32],
     low: &mut [u32],
@@ -175,8 +173,7 @@ pub extern "C" fn sts_step(
 }
 
 // Every step not later than `until`.
-#[unsafe(no_mangle)]
-pub extern "C" fn sts_run(
+pub fn sts_run(
     file: &[u8],
     until: u32,
     letter: &mut [u32],
@@ -219,8 +216,7 @@ fn give_told(a: Asked, answer: &mut [u32]) -> u32
 }
 
 // The value and the next change of a node at a pattern.
-#[unsafe(no_mangle)]
-pub extern "C" fn sts_ask(
+pub fn sts_ask(
     file: &[u8],
     letter: &[u32],
     low: &[u32],

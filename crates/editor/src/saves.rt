@@ -24,8 +24,7 @@ fn give_length(saving: Saving, told: &mut u32) -> u32
 }
 
 // Writes the cell of a file in its saved form: 0, the bytes and their length, or the refusal's number and nothing else.
-#[unsafe(no_mangle)]
-pub extern "C" fn sts_save(file: &[u8], out: &mut [u8], told: &mut u32) -> u32
+pub fn sts_save(file: &[u8], out: &mut [u8], told: &mut u32) -> u32
     ensures { SaveCall out.old out.new told.old told.new (save_file (length out.old) file.now) result }
 {
     let saving = save_file(out, file);
@@ -33,8 +32,7 @@ pub extern "C" fn sts_save(file: &[u8], out: &mut [u8], told: &mut u32) -> u32
 }
 
 // Writes the file of the small cell at a place: 0, the bytes and their length, or the refusal's number and nothing else.
-#[unsafe(no_mangle)]
-pub extern "C" fn sts_small(place: u32, out: &mut [u8], told: &mut u32) -> u32
+pub fn sts_small(place: u32, out: &mut [u8], told: &mut u32) -> u32
     ensures { SaveCall out.old out.new told.old told.new (small_file (length out.old) place) result }
 {
     let saving = save_small(out, place);

@@ -41,16 +41,14 @@ pub fn give_number(t: Told, number: &mut u32) -> u32
 }
 
 // A fresh table: three terminals, then zeros.
-#[unsafe(no_mangle)]
-pub extern "C" fn sts_fresh(letter: &mut [u32], low: &mut [u32], high: &mut [u32]) -> u32
+pub fn sts_fresh(letter: &mut [u32], low: &mut [u32], high: &mut [u32]) -> u32
     ensures { FreshCall (columns letter.old low.old high.old) (columns letter.new low.new high.new) (fresh_call (columns letter.old low.old high.old)) result }
 {
     refusal::reply_number(table::fresh(letter, low, high))
 }
 
 // The first function where the selector is 1, else the second.
-#[unsafe(no_mangle)]
-pub extern "C" fn sts_choose(
+pub fn sts_choose(
     k: u32,
     letter: &mut [u32],
     low: &mut [u32],
@@ -69,8 +67,7 @@ pub extern "C" fn sts_choose(
 }
 
 // The smaller of two functions.
-#[unsafe(no_mangle)]
-pub extern "C" fn sts_smaller(
+pub fn sts_smaller(
     k: u32,
     letter: &mut [u32],
     low: &mut [u32],
@@ -88,8 +85,7 @@ pub extern "C" fn sts_smaller(
 }
 
 // The sum of two functions: never where either is, else at most 4,294,967,294.
-#[unsafe(no_mangle)]
-pub extern "C" fn sts_sum(
+pub fn sts_sum(
     k: u32,
     letter: &mut [u32],
     low: &mut [u32],
@@ -107,8 +103,7 @@ pub extern "C" fn sts_sum(
 }
 
 // A function with a letter at 0 or 1.
-#[unsafe(no_mangle)]
-pub extern "C" fn sts_fix(
+pub fn sts_fix(
     k: u32,
     letter: &mut [u32],
     low: &mut [u32],
@@ -127,8 +122,7 @@ pub extern "C" fn sts_fix(
 }
 
 // The number of a function at a pattern.
-#[unsafe(no_mangle)]
-pub extern "C" fn sts_number(
+pub fn sts_number(
     k: u32,
     letter: &[u32],
     low: &[u32],
@@ -145,8 +139,7 @@ pub extern "C" fn sts_number(
 }
 
 // The count of the patterns at which a function is 1.
-#[unsafe(no_mangle)]
-pub extern "C" fn sts_count(
+pub fn sts_count(
     k: u32,
     letter: &[u32],
     low: &[u32],
