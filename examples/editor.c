@@ -15,7 +15,7 @@
  * whenever one of them has changed, and the next change that pends. Columns are headed
  * by the numbers of the nodes. A refusal is printed with its number and its word.
  *
- * From the repository's root, after `rt staticlib editor`:
+ * From the repository's root, after `tools/staticlib`:
  *
  *   gcc -std=c99 -O2 -Iinclude -o editor examples/editor.c target/staticlib/libeditor.a
  *   ./editor cells/inverter.cell 1

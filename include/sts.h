@@ -1,7 +1,7 @@
 /*
  * The calls of the symbolic switch-level timing tool.
  *
- * Link with target/staticlib/libeditor.a, which `rt staticlib editor` writes. The
+ * Link with target/staticlib/libeditor.a, which `tools/staticlib` writes. The
  * header is C99 and C++11. docs/CELL-FILE.md tells how the bytes of a cell file are
  * laid out, docs/REFUSALS.md what to do about a refusal, and examples/editor.c is a
  * program that makes the calls.

@@ -1,4 +1,4 @@
-//! Links the tool's static library, which `rt staticlib editor` writes.
+//! Links the tool's static library, which `tools/staticlib` writes.
 
 use std::env;
 use std::path::Path;
@@ -14,7 +14,7 @@ fn main() {
     println!("cargo:rerun-if-changed={}", library.display());
     assert!(
         library.is_file(),
-        "{} is missing: run `rt staticlib editor` first",
+        "{} is missing: run `tools/staticlib` first",
         library.display()
     );
     println!("cargo:rustc-link-search=native={}", folder.display());

@@ -2,7 +2,7 @@
  * Calls each export of the tool from C, on arrays that C lends. Prints a line for
  * each check that fails; the exit status is 1 if any did.
  *
- * From the repository's root, after `rt staticlib editor`:
+ * From the repository's root, after `tools/staticlib`:
  *
  *   mkdir -p tests/target && gcc -std=c99 -pedantic -Wall -Wextra -Werror -O2 \
  *     -o tests/target/calls tests/c/calls.c target/staticlib/libeditor.a && tests/target/calls

@@ -91,7 +91,7 @@ pub fn compare(
 
 /// The same as [`run_with`] where standard output is no text.
 pub fn run_bytes(name: &str, arguments: &[&str], input: &[u8]) -> Result<Written<Vec<u8>>, String> {
-    let path = in_repository("target/bin").join(name);
+    let path = in_repository("crates").join(name).join("out").join(name);
     let told = |error: io::Error| format!("{}: {error}", path.display());
     let mut child = Command::new(&path)
         .args(arguments)

@@ -1,8 +1,11 @@
 // The calls from C, each held to its place in the demands.
 ghost use Rattle.std.specs.Prelude.{◌≡◌, length, get_or};
 ghost use Rattle.diagram.specs.Call.{columns};
+ghost use Rattle.editor.specs.Runs.{record_column};
 ghost use Rattle.demand.specs.FromC.{from_c};
 ghost use Rattle.witness.specs.Holding.{held};
+
+use record::Run;
 
 // A fresh table.
 pub fn fresh(letter: &mut [u32], low: &mut [u32], high: &mut [u32]) -> u32
@@ -57,6 +60,34 @@ pub fn step(
         low,
         high,
         record,
+        work_letter,
+        work_low,
+        work_high,
+    )
+}
+
+// A step in place, on a struct with the numbers of a column.
+pub fn advance(
+    file: &[u8],
+    letter: &mut [u32],
+    low: &mut [u32],
+    high: &mut [u32],
+    run: &mut Run,
+    work_letter: &mut [u32],
+    work_low: &mut [u32],
+    work_high: &mut [u32],
+) -> u32
+    ensures { from_c.InPlace file.now (held letter.old low.old high.old (record_column run.old)) (held letter.new low.new high.new (record_column run.new)) (columns work_letter.old work_low.old work_high.old) (columns work_letter.new work_low.new work_high.new) result }
+{
+    // read for the proof: an array that was read has its length
+    let _values = run.values;
+    let _changes = run.changes;
+    editor::inplace::sts_advance(
+        file,
+        letter,
+        low,
+        high,
+        run,
         work_letter,
         work_low,
         work_high,
