@@ -5,9 +5,9 @@ use Rattle.table.specs.Stop.{stopped}
 use Rattle.record.specs.declared.Run.{Run}
 
 -- the rails' entries, then those of the first node records, then 0
-pub record ByNode (ground supply : ℕ) (entries : List ℕ) (count : ℕ) (out : List ℕ) : Type 0 where
+pub record ByNode (low supply : ℕ) (entries : List ℕ) (count : ℕ) (out : List ℕ) : Type 0 where
   pub long : length out ≡ 26
-  pub ground_is : get_or out 0 0 ≡ ground
+  pub ground_is : get_or out 0 0 ≡ low
   pub supply_is : get_or out 1 0 ≡ supply
   pub node_is : (i : ℕ) → i < count → get_or out (2 + i) 0 ≡ get_or entries i 0
   pub past_is : (j : ℕ) → 2 + count ≤ j → get_or out j 0 ≡ 0

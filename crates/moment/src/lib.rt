@@ -34,12 +34,12 @@ pub struct Next {
 }
 
 // The first entries by node number behind those of the rails, 0 past them.
-fn by_number(ground: u32, supply: u32, entries: [u32; 24], count: usize) -> [u32; 26]
+fn by_number(low: u32, supply: u32, entries: [u32; 24], count: usize) -> [u32; 26]
     requires { count ≤ 24 }
-    ensures { ByNode ground supply entries count result }
+    ensures { ByNode low supply entries count result }
 {
     let mut out = [0u32; 26];
-    out[0] = ground;
+    out[0] = low;
     out[1] = supply;
     let mut i = 0;
     while i < count {

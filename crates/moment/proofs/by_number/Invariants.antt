@@ -4,7 +4,7 @@ use Rattle.moment.proofs.Places.{Placing}
 use Rattle.moment.proofs.by_number.Given as goal
 
 abbrev pub invariant-loop-i : goal.invariant-loop-i
-invariant-loop-i l = Placing l.ground l.supply l.entries l.count l.i l.out
+invariant-loop-i l = Placing l.low l.supply l.entries l.count l.i l.out
 
 abbrev pub decreases-loop-i : goal.decreases-loop-i
 decreases-loop-i l = l.count - l.i
