@@ -40,7 +40,9 @@ fn print_named<R: Files, W: Write>(files: &R, output: &mut W, name: &[u8], size:
     requires { size ≤ 65536 }
 {
     let _ = output.write_all(name);
-    let _ = writeln!(output, " {size}");
+    let _ = output.write_all(b" ");
+    let _ = write!(output, "{size}");
+    let _ = output.write_all(b"\n");
     match open(files, name) {
         Some(mut file) => print_file(&mut file, output, size),
         None => {
