@@ -17,7 +17,6 @@ use cell::Cell;
 use output::{Printed, print, put_saving};
 use refusal::Refusal;
 use std::env::Env;
-use system::has_argument;
 use text::{Parsed, parse, put_bytes};
 use writer::refused;
 
@@ -69,10 +68,10 @@ fn put_small(out: &mut [u8], errors: &mut [u8], text: &[u8]) -> Printed
 fn argument<E: Env>(env: &E, space: &mut [u8]) -> usize
     ensures { result ≤ length space.new }
 {
-    if has_argument(env, 2) {
+    if system::argument(env, 2, &mut []).is_some() {
         return 0;
     }
-    system::argument(env, 1, space)
+    system::argument(env, 1, space).unwrap_or(0)
 }
 
 fn main(rt: HostRuntime) {

@@ -2,7 +2,7 @@
 // Promise: what stands at the front of the buffer is what the stream gave, in its order; a read that fails ends it as the stream's end does.
 #![tactic(auto)]
 
-ghost use Rattle.std.specs.Prelude.{◌≤◌, length, take};
+ghost use Rattle.std.specs.Prelude.{◌≤◌, length, take, IfSome};
 ghost use Rattle.std.specs.Io.KnownBytes.{Consumes};
 
 use std::env::{Env, FillError};
@@ -23,20 +23,14 @@ pub fn read_full<R: Read>(stream: &mut R, buffer: &mut [u8]) -> usize
     done
 }
 
-// Whether the program has an argument of this number; the first after its name is 1.
-pub fn has_argument<E: Env>(env: &E, number: usize) -> bool {
-    match env.arg(number, &mut []) {
-        Ok(_) | Err(FillError::TooLong) => true,
-        Err(FillError::NotPresent) => false,
-    }
-}
-
-// An argument's bytes at the front of the buffer; how many they are, 0 where there is no such argument or it is longer than the buffer.
-pub fn argument<E: Env>(env: &E, number: usize, buffer: &mut [u8]) -> usize
-    ensures { result ≤ length buffer.new }
+// An argument's bytes at the front of the buffer, and how many they are: 0 where it is longer than the buffer. None where there is no such
+// argument; the first after the program's name is 1.
+pub fn argument<E: Env>(env: &E, number: usize, buffer: &mut [u8]) -> Option<usize>
+    ensures { IfSome result (λ n. n ≤ length buffer.new) }
 {
     match env.arg(number, buffer) {
-        Ok(n) => n,
-        Err(_) => 0,
+        Ok(n) => Some(n),
+        Err(FillError::TooLong) => Some(0),
+        Err(FillError::NotPresent) => None,
     }
 }

@@ -1,7 +1,7 @@
 // The value change dump of one pattern's run, for waveform viewers (document 02, wish 5): the dump as a list of bytes, with its laws, and its
 // lines written into a lent buffer from a place on.
 // Promise: each function leaves the buffer with exactly the bytes of specs/Lines.antt at the place, every other byte as it was, and answers where
-// they end. What a viewer reads off a dump is what the run question answers (specs/Told.antt). Crate waveform runs a cell and calls these.
+// they end. No program calls these yet, and specs/Told.antt, that a viewer reads off a dump what the run question answers, is a statement without a proof.
 #![tactic(auto)]
 
 ghost use Rattle.std.specs.Prelude.{◌≡◌, [], cond, ◌+◌, ◌<◌, ◌≤◌, length, eqb};

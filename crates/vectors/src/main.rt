@@ -7,32 +7,30 @@ use listing::argument::table_length;
 use listing::print::print_file;
 use std::fs::File;
 use std::io::Write;
-use std::rt::{Env, Files};
+use std::rt::Files;
 use std::str;
-use system::has_argument;
 
 fn main(rt: HostRuntime) {
     let mut size: usize = 4096;
     for number in 1..usize::MAX {
-        if !has_argument(&rt, number) {
+        let mut space = [0u8; 4096];
+        let Some(n) = system::argument(&rt, number, &mut space) else {
             break;
-        }
-        size = argument(&rt, &mut rt.stdout(), number, size);
+        };
+        size = argument(&rt, &mut rt.stdout(), &space[..n], size);
     }
 }
 
 // A number is a table length for the names after it; a name is a file whose listing is printed.
-fn argument<R: Env + Files, W: Write>(rt: &R, output: &mut W, number: usize, size: usize) -> usize
+fn argument<R: Files, W: Write>(files: &R, output: &mut W, text: &[u8], size: usize) -> usize
     requires { size ≤ 65536 }
     ensures { result ≤ 65536 }
 {
-    let mut space = [0u8; 4096];
-    let n = system::argument(rt, number, &mut space);
-    let length = table_length(&space[..n]);
+    let length = table_length(text);
     if length != 0 {
         return length;
     }
-    print_named(rt, output, &space[..n], size);
+    print_named(files, output, text, size);
     size
 }
 

@@ -8,7 +8,7 @@ use listing::argument::table_length;
 use listing::print::print_file;
 use std::env::Env;
 use std::io::Write;
-use system::{argument, has_argument};
+use system::argument;
 
 fn main(rt: HostRuntime) {
     let size = asked_length(&rt);
@@ -25,13 +25,12 @@ fn main(rt: HostRuntime) {
 fn asked_length<E: Env>(env: &E) -> usize
     ensures { result ≤ 65536 }
 {
-    if !has_argument(env, 1) {
+    let mut space = [0u8; 64];
+    let Some(n) = argument(env, 1, &mut space) else {
         return 4096;
-    }
-    if has_argument(env, 2) {
+    };
+    if argument(env, 2, &mut []).is_some() {
         return 0;
     }
-    let mut space = [0u8; 64];
-    let n = argument(env, 1, &mut space);
     table_length(&space[..n])
 }
