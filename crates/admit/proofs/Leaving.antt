@@ -1,5 +1,6 @@
 -- What a start or a step leaves, by what was stored.
-use mathlib.Core.Path.{◌≡◌, refl, sym, ◌∙◌, ap, ap₂, subst}
+use Rattle.std.proofs.Common.{Result, Ok, Err}
+use mathlib.Core.Path.{◌≡◌, refl, sym, ◌∙◌, ap, ap₂}
 use mathlib.Core.Logic.{⊎_elim}
 use mathlib.Core.List.{List}
 use mathlib.Core.Bool.{Bool, true, false, not, cond}
@@ -10,9 +11,7 @@ use lib.Dec.{ltb, eqb}
 use borrow.Author.Tests.{ltb-true, ltb-false}
 use Rattle.refusal.specs.declared.Refusal.{Refusal}
 use Rattle.refusal.specs.declared.Refusal.TheVariants.{Ceiling}
-use Rattle.refusal.specs.declared.Reply.{Reply}
-use Rattle.refusal.specs.declared.Reply.TheVariants.{Done, Refused}
-use Rattle.refusal.specs.Answer.{Answer, answered, check, refuses, reply_of}
+use Rattle.refusal.specs.Answer.{Answer, answered, check, result_of}
 use Rattle.lists.specs.Tests.{below}
 use Rattle.lists.proofs.Cases.{bool_cases, true_false}
 use Rattle.lists.proofs.Padded.{padded_read}
@@ -24,7 +23,6 @@ use Rattle.diagram.specs.Held.{held}
 use Rattle.diagram.proofs.Sound.{Sound}
 use Rattle.table.specs.declared.Stop.{Stop}
 use Rattle.table.specs.Stop.{stopped, full_if}
-use Rattle.table.specs.Holds.{Holds}
 use Rattle.table.proofs.Outcomes.{holds_table}
 use Rattle.functions.specs.Open.{Legible}
 use Rattle.functions.proofs.Carry.{open_next}
@@ -35,12 +33,16 @@ use Rattle.rules.proofs.Moment.{Records, SoundMoment, moment_records}
 use Rattle.plain.specs.Exceeded.{any_exceeded}
 use Rattle.record.specs.declared.Run.{Run}
 use Rattle.record.specs.Numbers.{least_among}
-use Rattle.record.specs.Record.{run_of}
+use Rattle.record.specs.Record.{run_of, record_of}
 use Rattle.record.proofs.Record.{run_of_record}
 use Rattle.moment.specs.Next.{NextAs}
 use Rattle.admit.specs.Reached.{Reached}
 use Rattle.admit.specs.Judged.{crowding}
 use Rattle.admit.proofs.Admitting.{least_tells, sound_tells, answer_crowded, answer_exceeds, answer_fits}
+
+-- the run of a moment, as a value
+abbrev run_given : Moment → Run
+run_given moment = record_of moment.run
 
 -- a reason to stop is want of room
 full_more : {stop : Stop} {a b : ℕ} → stop ≡ full_if (ltb a b) → stopped stop ≡ true → a < b
@@ -74,11 +76,11 @@ module _ (c : Circuit) (time : ℕ) (stored states : ℕ → State) (over : ℕ 
   records = moment_records c time stored t few sound
 
   -- without room
-  pub full_reached : stopped stop ≡ true → {why : Refusal} → why ≡ crowding (below (patterns c.letters) (λ p. not (over p))) → (x : Run)
-      → Reached t (check (below (patterns c.letters) (λ p. not (over p))) Ceiling (fitting (length l) (moment_of c time states t))) l w h ix (Refused why) x
-  full_reached p {why} e x = record {
-    reply_is = sym (ap reply_of (answer_crowded c time stored states over t few sound tells same (length l) (full_more next.stop_is p) e));
-    fits = λ z. true_false true refl z;
+  pub full_reached : stopped stop ≡ true → {why : Refusal} → why ≡ crowding (below (patterns c.letters) (λ p. not (over p)))
+      → Reached t (check (below (patterns c.letters) (λ p. not (over p))) Ceiling (fitting (length l) (moment_of c time states t))) l w h ix (Err why)
+  full_reached p {why} e = record {
+    result_is = sym (ap (result_of run_given) (answer_crowded c time stored states over t few sound tells same (length l) (full_more next.stop_is p) e));
+    fits = tt;
     kept = next.kept;
   }
 
@@ -115,23 +117,23 @@ module _ (c : Circuit) (time : ℕ) (stored states : ℕ → State) (over : ℕ 
         e ∙ ap₂ (run_sound c) table_is run ∙ sound_tells c time stored states over t few sound tells same shaped s
 
     -- and so what is replied
-    pub fits_reached : {b : Bool} → b ≡ below (patterns c.letters) (λ p. not (over p)) → {reply : Reply} {x : Run} → x ≡ r → reply ≡ cond b Done (Refused Ceiling)
-        → Reached t (check (below (patterns c.letters) (λ p. not (over p))) Ceiling (fitting (length l) (moment_of c time states t))) l w h ix reply x
-    fits_reached {b} told {reply} {x} is e =
+    pub fits_reached : {b : Bool} → b ≡ below (patterns c.letters) (λ p. not (over p)) → {result : Result Run Refusal} → result ≡ cond b (Ok r) (Err Ceiling)
+        → Reached t (check (below (patterns c.letters) (λ p. not (over p))) Ceiling (fitting (length l) (moment_of c time states t))) l w h ix result
+    fits_reached {b} told {result} e =
         ⊎_elim
         (λ (q : b ≡ true).
-        let yes : reply ≡ Done = e ∙ ap (λ (y : Bool). cond y Done (Refused Ceiling)) q in
+        let yes : result ≡ Ok r = e ∙ ap (λ (y : Bool). cond {A = Result Run Refusal} y (Ok r) (Err Ceiling)) q in
         let given : answer ≡ answered m = answer_fits c time stored states over t few sound tells same (length l) (sym told ∙ q) (full_less next.stop_is p) in
-        record {
-          reply_is = yes ∙ sym (ap reply_of given);
-          fits = λ z. record { moment = m; is = given; run_is = is ∙ next.run_is p; holds = subst (λ (y : Run). Holds l w h ix m.table y.used) (sym is) (next.holds p) };
+        rw yes record {
+          result_is = ap {B = Result Run Refusal} Ok (next.run_is p) ∙ sym (ap (result_of run_given) given);
+          fits = record { moment = m; is = given; run_is = next.run_is p; holds = next.holds p };
           kept = next.kept;
         })
         (λ (q : b ≡ false).
-        let no : reply ≡ Refused Ceiling = e ∙ ap (λ (y : Bool). cond y Done (Refused Ceiling)) q in
-        record {
-          reply_is = no ∙ sym (ap reply_of (answer_exceeds c time stored states over t few sound tells same (length l) (sym told ∙ q)));
-          fits = λ z. true_false (refuses reply) (ap refuses no) z;
+        let no : result ≡ Err Ceiling = e ∙ ap (λ (y : Bool). cond {A = Result Run Refusal} y (Ok r) (Err Ceiling)) q in
+        rw no record {
+          result_is = sym (ap (result_of run_given) (answer_exceeds c time stored states over t few sound tells same (length l) (sym told ∙ q)));
+          fits = tt;
           kept = next.kept;
         })
         (bool_cases b)

@@ -1,4 +1,5 @@
 -- A start and a step of the cell that a flat column lays out: what judging them requires, and what they leave.
+use Rattle.std.proofs.Common.{Result, Ok, Err, IfOk}
 use mathlib.Core.Path.{◌≡◌, sym, ◌∙◌, ap, subst}
 use mathlib.Core.Logic.{⊎_elim}
 use mathlib.Core.List.{List}
@@ -7,9 +8,8 @@ use Prim.Native.Nat.{ℕ, ◌≤◌, ◌<◌}
 use native.Mathlib.Omega.{arith}
 use lib.ListN.{length}
 use lib.Dec.{eqb}
+use Rattle.refusal.specs.declared.Refusal.{Refusal}
 use Rattle.refusal.specs.declared.Refusal.TheVariants.{Ceiling}
-use Rattle.refusal.specs.declared.Reply.{Reply}
-use Rattle.refusal.specs.declared.Reply.TheVariants.{Done, Refused}
 use Rattle.format.specs.Circuit.{Circuit}
 use Rattle.diagram.specs.Pattern.{most_letters, patterns}
 use Rattle.diagram.specs.Table.{Table, never}
@@ -73,23 +73,23 @@ module _ {net l w h ix : List ℕ} {old : ℕ} (laid : Laid (net_circuit net) ne
     tells p b = start_exceeded c p
 
     -- without room
-    pub start_crowded : stopped stop ≡ true → {b : Bool} → b ≡ start_within (net_circuit net) → {reply : Reply} → reply ≡ Refused (crowding b) → (x : Run)
-        → Reached (held l w h old) (start_answer (net_circuit net) (length l) (held l w h old)) l₁ w₁ h₁ ix₁ reply x
+    pub start_crowded : stopped stop ≡ true → {b : Bool} → b ≡ start_within (net_circuit net) → {why : Refusal} → why ≡ crowding b
+        → Reached (held l w h old) (start_answer (net_circuit net) (length l) (held l w h old)) l₁ w₁ h₁ ix₁ (Err why)
     unfolding start_within start_moment
-    start_crowded e within is x = rw (is, ← long) (full_reached c 0 (started_or_exceeded c) (started c) (start_exceeds c) t few sound tells (λ p b. start_not_exceeded c p) plain_next e (ap crowding within) x)
+    start_crowded e within is = rw (is, ← long) (full_reached c 0 (started_or_exceeded c) (started c) (start_exceeds c) t few sound tells (λ p b. start_not_exceeded c p) plain_next e (ap crowding within))
 
     module _ (e : stopped stop ≡ false) where
       pub start_legible : Legible (at net letters_place) l₁ w₁ h₁ r.used
       start_legible = subst (λ (k : ℕ). Legible k l₁ w₁ h₁ r.used) (letters_at net) (fits_legible c 0 (started_or_exceeded c) (started c) (start_exceeds c) t few sound tells (λ p b. start_not_exceeded c p) plain_next e)
 
       -- with room: the run is sound exactly if no walk exceeds
-      pub start_reached : {b : Bool} → b ≡ run_sound (net_circuit net) (held l₁ w₁ h₁ r.used) (run_of (net_circuit net) r) → {reply : Reply} {x : Run} → (x ≡ r) × (reply ≡ cond b Done (Refused Ceiling))
-          → Reached (held l w h old) (start_answer (net_circuit net) (length l) (held l w h old)) l₁ w₁ h₁ ix₁ reply x
+      pub start_reached : {b : Bool} → b ≡ run_sound (net_circuit net) (held l₁ w₁ h₁ r.used) (run_of (net_circuit net) r) → {result : Result Run Refusal} → result ≡ cond b (Ok r) (Err Ceiling)
+          → Reached (held l w h old) (start_answer (net_circuit net) (length l) (held l w h old)) l₁ w₁ h₁ ix₁ result
       unfolding start_within start_moment
       start_reached is x =
           rw (← long)
           (fits_reached c 0 (started_or_exceeded c) (started c) (start_exceeds c) t few sound tells (λ p b. start_not_exceeded c p) plain_next e
-          (sound_told c 0 (started_or_exceeded c) (started c) (start_exceeds c) t few sound tells (λ p b. start_not_exceeded c p) plain_next e (λ p b. started_or_shaped c p) whole is) x.0 x.1)
+          (sound_told c 0 (started_or_exceeded c) (started c) (start_exceeds c) t few sound tells (λ p b. start_not_exceeded c p) plain_next e (λ p b. started_or_shaped c p) whole is) x)
         where
           whole : SoundMoment c (moment_of c 0 (started c) t)
           whole = start_sound laid.legal sound
@@ -154,12 +154,12 @@ module _ {net l w h ix : List ℕ} (r : Run) (laid : Laid (net_circuit net) net)
     still_within e = e ∙ ap (λ (u : Table). step_within d (record { run = run_of d r; table = u })) still
 
     -- without room
-    pub step_crowded : stopped stop ≡ true → {b : Bool} → b ≡ step_within (net_circuit net) (moment_held l w h (run_of (net_circuit net) r)) → {reply : Reply} → reply ≡ Refused (crowding b) → (y : Run)
-        → Reached (held l w h r.used) (step_answer (net_circuit net) (length l) (moment_held l w h (run_of (net_circuit net) r))) l₁ w₁ h₁ ix₁ reply y
+    pub step_crowded : stopped stop ≡ true → {b : Bool} → b ≡ step_within (net_circuit net) (moment_held l w h (run_of (net_circuit net) r)) → {why : Refusal} → why ≡ crowding b
+        → Reached (held l w h r.used) (step_answer (net_circuit net) (length l) (moment_held l w h (run_of (net_circuit net) r))) l₁ w₁ h₁ ix₁ (Err why)
     unfolding step_within step_moment
-    step_crowded e within is y =
+    step_crowded e within is =
         rw (is, ← long)
-        (full_reached d time (λ p. stepped_or_exceeded d time p (state p)) (λ p. stepped d time p (state p)) (λ p. step_exceeds d time p (state p)) v (few laid io) (sound laid io) step_tells (λ p b. step_not_exceeded d time p (state p)) step_next e (ap crowding within) y)
+        (full_reached d time (λ p. stepped_or_exceeded d time p (state p)) (λ p. stepped d time p (state p)) (λ p. step_exceeds d time p (state p)) v (few laid io) (sound laid io) step_tells (λ p b. step_not_exceeded d time p (state p)) step_next e (ap crowding within))
 
     module _ (e : stopped stop ≡ false) where
       pub step_legible : Legible (at net letters_place) l₁ w₁ h₁ x.used
@@ -182,15 +182,20 @@ module _ {net l w h ix : List ℕ} (r : Run) (laid : Laid (net_circuit net) net)
       }
 
       -- with room: the least of the next changes is not 0 exactly if no walk exceeds
-      pub step_reached : {least least' : List ℕ} {b : Bool} → Judged net l₁ w₁ h₁ x least least' b → {reply : Reply} {y : Run} → (y ≡ x) × (reply ≡ cond b Done (Refused Ceiling))
-          → Reached (held l w h r.used) (step_answer (net_circuit net) (length l) (moment_held l w h (run_of (net_circuit net) r))) l₁ w₁ h₁ ix₁ reply y
+      pub step_reached : {least least' : List ℕ} {b : Bool} → Judged net l₁ w₁ h₁ x least least' b → {result : Result Run Refusal} → result ≡ cond b (Ok x) (Err Ceiling)
+          → Reached (held l w h r.used) (step_answer (net_circuit net) (length l) (moment_held l w h (run_of (net_circuit net) r))) l₁ w₁ h₁ ix₁ result
       unfolding step_within step_moment
       step_reached {b = b} j z =
           let is : b ≡ not (eqb (least_among d.letters (held l₁ w₁ h₁ x.used) x.changes (length d.nodes)) 0) = rw (letters_at net, nodes_length net) j.is in
           rw (← long)
           (fits_reached d time (λ p. stepped_or_exceeded d time p (state p)) (λ p. stepped d time p (state p)) (λ p. step_exceeds d time p (state p)) v (few laid io) (sound laid io) step_tells (λ p b. step_not_exceeded d time p (state p)) step_next e
-          (least_told d time (λ p. stepped_or_exceeded d time p (state p)) (λ p. stepped d time p (state p)) (λ p. step_exceeds d time p (state p)) v (few laid io) (sound laid io) step_tells (λ p b. step_not_exceeded d time p (state p)) step_next e is) z.0 z.1)
+          (least_told d time (λ p. stepped_or_exceeded d time p (state p)) (λ p. stepped d time p (state p)) (λ p. step_exceeds d time p (state p)) v (few laid io) (sound laid io) step_tells (λ p b. step_not_exceeded d time p (state p)) step_next e is) z)
 
       -- and the column of least numbers is whole
-      pub step_leasts : {least least' : List ℕ} {b : Bool} {y : Run} → Judged net l₁ w₁ h₁ x least least' b → y ≡ x → Leasts (at net letters_place) (held l₁ w₁ h₁ y.used) y.used least'
-      step_leasts j is = rw is j.leasts
+      pub step_leasts : {least least' : List ℕ} {b : Bool} {result : Result Run Refusal} → Judged net l₁ w₁ h₁ x least least' b → result ≡ cond b (Ok x) (Err Ceiling)
+          → IfOk result (λ (run : Run). Leasts (at net letters_place) (held l₁ w₁ h₁ run.used) run.used least')
+      step_leasts {least' = least'} {b} j is = rw is (by b)
+        where
+          by : (b : Bool) → IfOk (cond {A = Result Run Refusal} b (Ok x) (Err Ceiling)) (λ (run : Run). Leasts (at net letters_place) (held l₁ w₁ h₁ run.used) run.used least')
+          by true = j.leasts
+          by false = tt

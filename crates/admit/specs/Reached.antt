@@ -1,7 +1,7 @@
 -- What a start, a step or a run of steps leaves in lent columns, by its answer.
-use Rattle.std.specs.Prelude.{◌≡◌, List, false, ℕ, length}
-use Rattle.refusal.specs.declared.Reply.{Reply}
-use Rattle.refusal.specs.Answer.{Answer, answered, refuses, reply_of}
+use Rattle.std.specs.Prelude.{◌≡◌, List, ℕ, length, Result, IfOk}
+use Rattle.refusal.specs.declared.Refusal.{Refusal}
+use Rattle.refusal.specs.Answer.{Answer, answered, result_of}
 use Rattle.diagram.specs.Table.{Table}
 use Rattle.rules.specs.Run.{Moment}
 use Rattle.table.specs.Holds.{Holds, Kept}
@@ -15,8 +15,8 @@ pub record Left (answer : Answer Moment) (l w h ix : List ℕ) (r : Run) : Type 
   pub run_is : r ≡ record_of moment.run
   pub holds : Holds l w h ix moment.table r.used
 
--- in the table t: the reply, and what it left where that is no refusal
-pub record Reached (t : Table) (answer : Answer Moment) (l w h ix : List ℕ) (reply : Reply) (r : Run) : Type 0 where
-  pub reply_is : reply ≡ reply_of answer
-  pub fits : refuses reply ≡ false → Left answer l w h ix r
+-- in the table t: the result, and what it left where that is no refusal
+pub record Reached (t : Table) (answer : Answer Moment) (l w h ix : List ℕ) (result : Result Run Refusal) : Type 0 where
+  pub result_is : result ≡ result_of (λ (moment : Moment). record_of moment.run) answer
+  pub fits : IfOk result (Left answer l w h ix)
   pub kept : Kept l w h (length l) t

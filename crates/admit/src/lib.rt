@@ -1,16 +1,15 @@
 // A start and a step over all patterns with the refusals that rank last: 11, where a walk exceeds the ceiling at some pattern, then 6.
-// Promise: the reply, and the run and the table where there is no refusal, are those of `start_answer` and `step_answer` of the definitions.
+// Promise: the result, a refusal or the run, and the table where there is no refusal, are those of `start_answer` and `step_answer` of the definitions.
 // A next change of 0 among those that were stored tells of 11; where the table is full, each pattern is tried by itself. Internal to our crates.
 #![tactic(auto)]
 
-ghost use Rattle.std.specs.Prelude.{◌≡◌, true, false, cond, ◌≤◌, length};
+ghost use Rattle.std.specs.Prelude.{◌≡◌, true, cond, ◌≤◌, length, Ok, Err, IfOk};
 ghost use Rattle.diagram.specs.Held.{held};
 ghost use Rattle.refusal.specs.declared.Refusal.TheVariants.{Ceiling};
-ghost use Rattle.refusal.specs.declared.Reply.TheVariants.{Done, Refused};
-ghost use Rattle.refusal.specs.Answer.{refuses};
 ghost use Rattle.table.specs.Holds.{Lent};
 ghost use Rattle.functions.specs.Open.{Legible, Open};
 ghost use Rattle.rules.specs.Run.{start_answer, step_answer, time_after, run_sound};
+ghost use Rattle.record.specs.declared.Run.{Run};
 ghost use Rattle.record.specs.Record.{run_of};
 ghost use Rattle.record.specs.Moments.{moment_held};
 ghost use Rattle.record.specs.Leasts.{Leasts};
@@ -24,44 +23,27 @@ use moment;
 use plain::settle::EXCEEDED;
 use record::least::{fill, least_among};
 use record::{Run, run_sound};
-use refusal::{Refusal, Reply};
+use refusal::Refusal;
 use table::stopped;
 
-// The reply, and the run after a start or a step that was not refused.
-#[derive(Clone, Copy)]
-pub struct Next {
-    pub reply: Reply,
-    pub run: Run,
-}
-
 // No run, where the table is full: 11 before 6.
-fn crowded(within: bool, run: Run) -> Next
-    ensures { result.reply ≡ Refused (crowding within) }
+fn crowded(within: bool) -> Refusal
+    ensures { result ≡ crowding within }
 {
-    let mut why = Refusal::Ceiling;
     if within {
-        why = Refusal::Full;
+        return Refusal::Full;
     }
-    Next {
-        reply: Reply::Refused(why),
-        run,
-    }
+    Refusal::Ceiling
 }
 
 // The run that was stored, unless a walk exceeds.
-fn judged(run: Run, within: bool) -> Next
-    ensures { (result.run ≡ run) × (result.reply ≡ cond within Done (Refused Ceiling)) }
+fn judged(run: Run, within: bool) -> Result<Run, Refusal>
+    ensures { result ≡ cond within (Ok run) (Err Ceiling) }
 {
     if within {
-        return Next {
-            reply: Reply::Done,
-            run,
-        };
+        return Ok(run);
     }
-    Next {
-        reply: Reply::Refused(Refusal::Ceiling),
-        run,
-    }
+    Err(Refusal::Ceiling)
 }
 
 // Whether no next change of a stored run is 0. The least numbers of the entries from `done` on are filled in.
@@ -97,9 +79,9 @@ pub fn start(
     wlow: &mut [u32],
     whigh: &mut [u32],
     windex: &mut [u32],
-) -> Next
+) -> Result<Run, Refusal>
     requires { Laid (net_circuit net.now) net.now × Open (at_place net.now letters_place) letter.old low.old high.old index.old used × Lent wletter.old wlow.old whigh.old windex.old }
-    ensures { Reached (held letter.old low.old high.old used) (start_answer (net_circuit net.now) (length letter.old) (held letter.old low.old high.old used)) letter.new low.new high.new index.new result.reply result.run }
+    ensures { Reached (held letter.old low.old high.old used) (start_answer (net_circuit net.now) (length letter.old) (held letter.old low.old high.old used)) letter.new low.new high.new index.new result }
 {
     let next = moment::start(
         net, letter, low, high, index, used, wletter, wlow, whigh, windex,
@@ -107,7 +89,7 @@ pub fn start(
     let stop = next.stop;
     let run = next.run;
     if stopped(stop) {
-        return crowded(start_within(net), run);
+        return Err(crowded(start_within(net)));
     }
     judged(run, run_sound(net, letter, low, high, run))
 }
@@ -126,11 +108,11 @@ pub fn step(
     windex: &mut [u32],
     time: u32,
     least: &mut [u32],
-) -> Next
+) -> Result<Run, Refusal>
     requires laid { Laid (net_circuit net.now) net.now × Open (at_place net.now letters_place) letter.old low.old high.old index.old r.used × Lent wletter.old wlow.old whigh.old windex.old × (length letter.old ≤ length least.old) }
     requires r_value { (run_sound (net_circuit net.now) (held letter.old low.old high.old r.used) (run_of (net_circuit net.now) r) ≡ true) × (time ≡ time_after (net_circuit net.now) (moment_held letter.old low.old high.old (run_of (net_circuit net.now) r))) × Leasts (at_place net.now letters_place) (held letter.old low.old high.old r.used) r.used least.old }
-    ensures reached { Reached (held letter.old low.old high.old r.used) (step_answer (net_circuit net.now) (length letter.old) (moment_held letter.old low.old high.old (run_of (net_circuit net.now) r))) letter.new low.new high.new index.new result.reply result.run }
-    ensures least_len_unchanged { (length least.new ≡ length least.old) × (refuses result.reply ≡ false → Leasts (at_place net.now letters_place) (held letter.new low.new high.new result.run.used) result.run.used least.new) }
+    ensures reached { Reached (held letter.old low.old high.old r.used) (step_answer (net_circuit net.now) (length letter.old) (moment_held letter.old low.old high.old (run_of (net_circuit net.now) r))) letter.new low.new high.new index.new result }
+    ensures least_len_unchanged { (length least.new ≡ length least.old) × IfOk result (λ (run : Run). Leasts (at_place net.now letters_place) (held letter.new low.new high.new run.used) run.used least.new) }
 {
     let next = moment::step(
         net, letter, low, high, index, r, wletter, wlow, whigh, windex, time, least,
@@ -138,7 +120,7 @@ pub fn step(
     let stop = next.stop;
     let run = next.run;
     if stopped(stop) {
-        return crowded(step_within(net, letter, low, high, r, time), run);
+        return Err(crowded(step_within(net, letter, low, high, r, time)));
     }
     judged(run, times_only(net, letter, low, high, run, least, r.used))
 }

@@ -1,4 +1,5 @@
 -- A run of steps: what is kept from one to the next.
+use Rattle.std.proofs.Common.{Result, Ok, Err}
 use mathlib.Core.Path.{◌≡◌, refl, sym, ◌∙◌, ap, subst}
 use mathlib.Core.Logic.{inl, inr, ⊎_elim}
 use mathlib.Core.List.{List}
@@ -8,10 +9,10 @@ use native.Mathlib.Omega.{arith}
 use lib.ListN.{length}
 use lib.Dec.{leb, eqb}
 use borrow.Author.Tests.{leb-true, leb-false, eqb-false, ne_eqb, not-true}
-use Rattle.refusal.specs.declared.Reply.{Reply}
-use Rattle.refusal.specs.declared.Reply.TheVariants.{Done}
-use Rattle.refusal.specs.Answer.{Answer, refused, answered, refuses, reply_of}
-use Rattle.lists.proofs.Cases.{eq_or_ne, and_left, and_right, true_false}
+use Rattle.refusal.specs.declared.Refusal.{Refusal}
+use Rattle.refusal.specs.Answer.{Answer, refused, answered, result_of}
+use Rattle.refusal.proofs.Answer.{err_refused}
+use Rattle.lists.proofs.Cases.{eq_or_ne, and_left, and_right}
 use Rattle.format.specs.Circuit.{Circuit}
 use Rattle.diagram.specs.Table.{never}
 use Rattle.diagram.specs.Call.{columns}
@@ -37,7 +38,7 @@ use Rattle.record.specs.Record.{run_of, record_of}
 use Rattle.record.specs.Leasts.{Leasts}
 use Rattle.record.proofs.Record.{run_of_record}
 use Rattle.admit.specs.Reached.{Left, Reached}
-use Rattle.advance.proofs.Ends.{refusing}
+use Rattle.advance.specs.Went.{run_given}
 
 -- the moment that columns and a run hold
 abbrev pub moment_in : List ℕ → List ℕ → List ℕ → List ℕ → Run → Moment
@@ -87,13 +88,13 @@ module _ {net l w h ix : List ℕ} {r r' : Run} (s : Standing net l w h ix r) (e
   tidy_standing = record { opened = rw tidy_used s.opened; sound = subst (λ (x : defined.Run). run_sound (net_circuit net) (held l w h x.used) x ≡ true) (sym tidy_run) s.sound }
 
   -- so nothing is asked but what was
-  pub tidy_reached : (until size : ℕ) {l1 w1 h1 ix1 : List ℕ} {reply : Reply} {next : Run}
-      → Reached (held l w h r'.used) (ran (net_circuit net) until size (moment_given (columns l w h) (run_of (net_circuit net) r'))) l1 w1 h1 ix1 reply next
-      → Reached (held l w h r.used) (ran (net_circuit net) until size (moment_given (columns l w h) (run_of (net_circuit net) r))) l1 w1 h1 ix1 reply next
-  tidy_reached until size {l1} {w1} {h1} {ix1} {reply} {next} x =
+  pub tidy_reached : (until size : ℕ) {l1 w1 h1 ix1 : List ℕ} {next : Result Run Refusal}
+      → Reached (held l w h r'.used) (ran (net_circuit net) until size (moment_given (columns l w h) (run_of (net_circuit net) r'))) l1 w1 h1 ix1 next
+      → Reached (held l w h r.used) (ran (net_circuit net) until size (moment_given (columns l w h) (run_of (net_circuit net) r))) l1 w1 h1 ix1 next
+  tidy_reached until size {l1} {w1} {h1} {ix1} {next} x =
       subst
       (λ (y : defined.Run).
-      Reached (held l w h y.used) (ran (net_circuit net) until size (moment_given (columns l w h) y)) l1 w1 h1 ix1 reply next)
+      Reached (held l w h y.used) (ran (net_circuit net) until size (moment_given (columns l w h) y)) l1 w1 h1 ix1 next)
       tidy_run
       x
 
@@ -193,13 +194,13 @@ module _ {net : List ℕ} {until : ℕ} {l₀ w₀ h₀ : List ℕ} {r₀ : Run}
 
   -- no step is left
   pub going_rests : (not (eqb time never) && leb time until) ≡ false
-      → Reached (held l₀ w₀ h₀ r₀.used) (ran (net_circuit net) until (length l₀) (moment_given (columns l₀ w₀ h₀) (run_of (net_circuit net) r₀))) l w h ix Done r
+      → Reached (held l₀ w₀ h₀ r₀.used) (ran (net_circuit net) until (length l₀) (moment_given (columns l₀ w₀ h₀) (run_of (net_circuit net) r₀))) l w h ix (Ok r)
   going_rests e =
       let is : ran (net_circuit net) until (length l₀) (moment_given (columns l₀ w₀ h₀) (run_of (net_circuit net) r₀)) ≡ answered (moment_in net l w h r) =
       g.left ∙ run_rests (net_circuit net) until (length l₀) (net_circuit net).horizon.0 (moment_in net l w h r) (going_left e) in
       record {
-        reply_is = sym (ap reply_of is);
-        fits = λ _. record { moment = moment_in net l w h r; is = is; run_is = g.whole; holds = g.standing.opened.holds };
+        result_is = ap {B = Result Run Refusal} Ok g.whole ∙ sym (ap (result_of run_given) is);
+        fits = record { moment = moment_in net l w h r; is = is; run_is = g.whole; holds = g.standing.opened.holds };
         kept = holds_kept g.standing.opened.holds g.kept;
       }
 
@@ -209,32 +210,31 @@ module _ {net : List ℕ} {until : ℕ} {l₀ w₀ h₀ : List ℕ} {r₀ : Run}
         ≡ continued (admitting (net_circuit net) (length l₀) (moment_given (columns l w h) (run_of (net_circuit net) r))) (ran (net_circuit net) until (length l₀))
     goes_on_lem = g.left ∙ run_next laid.legal until (length l₀) (standing_sound g.standing) takes
 
-    module _ {l' w' h' ix' : List ℕ} {r' : Run} {reply : Reply} (long : length l' ≡ length l)
-        (n : Reached (held l w h r.used) (admitting (net_circuit net) (length l) (moment_given (columns l w h) (run_of (net_circuit net) r))) l' w' h' ix' reply r') where
-      abbrev after : Moment
-      after = step_moment (net_circuit net) (moment_given (columns l w h) (run_of (net_circuit net) r))
+    abbrev after : Moment
+    after = step_moment (net_circuit net) (moment_given (columns l w h) (run_of (net_circuit net) r))
 
-      -- of which the size is the first one's
-      there : admitting (net_circuit net) (length l) (moment_given (columns l w h) (run_of (net_circuit net) r)) ≡ admitting (net_circuit net) (length l₀) (moment_given (columns l w h) (run_of (net_circuit net) r))
-      there = ap (λ (size : ℕ). admitting (net_circuit net) size (moment_in net l w h r)) g.long
+    -- of which the size is the first one's
+    there : admitting (net_circuit net) (length l) (moment_given (columns l w h) (run_of (net_circuit net) r)) ≡ admitting (net_circuit net) (length l₀) (moment_given (columns l w h) (run_of (net_circuit net) r))
+    there = ap (λ (size : ℕ). admitting (net_circuit net) size (moment_in net l w h r)) g.long
 
+    module _ {l' w' h' ix' : List ℕ} (long : length l' ≡ length l) where
       -- that is refused
-      pub going_refused : refuses reply ≡ true
-          → Reached (held l₀ w₀ h₀ r₀.used) (ran (net_circuit net) until (length l₀) (moment_given (columns l₀ w₀ h₀) (run_of (net_circuit net) r₀))) l' w' h' ix' reply r'
-      going_refused e =
-          let no = refusing (admitting (net_circuit net) (length l) (moment_in net l w h r)) n.reply_is e in
-          let whole : ran (net_circuit net) until (length l₀) (moment_given (columns l₀ w₀ h₀) (run_of (net_circuit net) r₀)) ≡ refused no.0 =
-          goes_on_lem ∙ ap (λ (a : Answer Moment). continued a (ran (net_circuit net) until (length l₀))) (sym there ∙ no.1) in
+      pub going_refused : {why : Refusal} → Reached (held l w h r.used) (admitting (net_circuit net) (length l) (moment_given (columns l w h) (run_of (net_circuit net) r))) l' w' h' ix' (Err why)
+          → Reached (held l₀ w₀ h₀ r₀.used) (ran (net_circuit net) until (length l₀) (moment_given (columns l₀ w₀ h₀) (run_of (net_circuit net) r₀))) l' w' h' ix' (Err why)
+      going_refused {why} n =
+          let no : admitting (net_circuit net) (length l) (moment_in net l w h r) ≡ refused why = err_refused run_given (admitting (net_circuit net) (length l) (moment_in net l w h r)) n.result_is in
+          let whole : ran (net_circuit net) until (length l₀) (moment_given (columns l₀ w₀ h₀) (run_of (net_circuit net) r₀)) ≡ refused why =
+          goes_on_lem ∙ ap (λ (a : Answer Moment). continued a (ran (net_circuit net) until (length l₀))) (sym there ∙ no) in
           record {
-            reply_is = n.reply_is ∙ ap reply_of no.1 ∙ sym (ap reply_of whole);
-            fits = λ z. true_false (refuses reply) e z;
+            result_is = sym (ap (result_of run_given) whole);
+            fits = tt;
             kept = kept_extends g.kept n.kept;
           }
 
       -- that is not
-      module _ (e : refuses reply ≡ false) where
+      module _ {r' : Run} (n : Reached (held l w h r.used) (admitting (net_circuit net) (length l) (moment_given (columns l w h) (run_of (net_circuit net) r))) l' w' h' ix' (Ok r')) where
         pub going_taken : Taken net l w h r (length l) l' w' h' ix' r'
-        going_taken = left_taken (n.fits e)
+        going_taken = left_taken n.fits
 
         pub going_next : {time' : ℕ} {least' : List ℕ} → Timed net l' w' h' r' time' least' → Going net until l₀ w₀ h₀ r₀ l' w' h' ix' r' time' least'
         going_next t =

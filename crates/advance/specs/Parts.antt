@@ -1,7 +1,6 @@
 -- What the parts of a task leave in lent columns.
-use Rattle.std.specs.Prelude.{◌≡◌, List, Bool, true, false, ℕ}
-use Rattle.refusal.specs.declared.Reply.{Reply}
-use Rattle.refusal.specs.Answer.{refuses}
+use Rattle.std.specs.Prelude.{◌≡◌, List, Bool, true, false, ℕ, Result, is_err}
+use Rattle.refusal.specs.declared.Refusal.{Refusal}
 use Rattle.diagram.specs.Call.{columns}
 use Rattle.rules.specs.Call.{sound_together}
 use Rattle.table.specs.Holds.{zero_from}
@@ -15,11 +14,8 @@ pub record Together (net l w h ix : List ℕ) (r : Run) (x : Bool) : Type 0 wher
   pub is : x ≡ sound_together (net_circuit net) (columns l w h) (run_of (net_circuit net) r)
   pub opened : x ≡ true → Open (at net letters_place) l w h ix r.used
 
--- the end of a task: the columns before and after it, the old used count and run, what was replied and the run that was
--- reached, and what is replied then
-pub record Closed (l w h l' w' h' : List ℕ) (used : ℕ) (r : Run) (told : Reply) (next : Run) (reply : Reply) (r' : Run) : Type 0 where
-  pub reply_is : reply ≡ told
-  pub cleared : refuses told ≡ true → columns l' w' h' ≡ columns (zero_from used l) (zero_from used w) (zero_from used h)
-  pub refused : refuses told ≡ true → r' ≡ r
-  pub kept : refuses told ≡ false → columns l' w' h' ≡ columns l w h
-  pub done : refuses told ≡ false → r' ≡ next
+-- the end of a task: the columns before and after it, the old used count, what was reached, and the result
+pub record Closed (l w h l' w' h' : List ℕ) (used : ℕ) (next result : Result Run Refusal) : Type 0 where
+  pub result_is : result ≡ next
+  pub cleared : is_err next ≡ true → columns l' w' h' ≡ columns (zero_from used l) (zero_from used w) (zero_from used h)
+  pub kept : is_err next ≡ false → columns l' w' h' ≡ columns l w h

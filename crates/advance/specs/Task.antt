@@ -1,5 +1,5 @@
 -- Start, step and run up to a picosecond as one: the answer of a task on a cell, a table, a run record and working (rules' Call).
-use Rattle.std.specs.Prelude.{ℕ, List, length, take}
+use Rattle.std.specs.Prelude.{ℕ, length, take}
 use Rattle.refusal.specs.Answer.{Answer, refused, answered}
 use Rattle.format.specs.Circuit.{Circuit}
 use Rattle.diagram.specs.Call.{Columns}

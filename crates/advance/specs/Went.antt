@@ -1,13 +1,17 @@
--- What a task leaves, by its answer: a refusal leaves the run and the table as they were.
-use Rattle.std.specs.Prelude.{◌≡◌, cond, length, replicate, eqb}
+-- What a task leaves, by its answer: a refusal gives no run, and leaves the table as it was.
+use Rattle.std.specs.Prelude.{◌≡◌, cond, length, replicate, eqb, Result}
+use Rattle.refusal.specs.declared.Refusal.{Refusal}
 use Rattle.refusal.specs.declared.Refusal.TheVariants.{Buffer}
-use Rattle.refusal.specs.declared.Reply.{Reply}
 use Rattle.refusal.specs.Number.{refusal_number}
-use Rattle.refusal.specs.Answer.{Answer, refused, answered, answer_number, reply_of}
+use Rattle.refusal.specs.Answer.{Answer, refused, answered, answer_number, result_of}
 use Rattle.diagram.specs.Call.{Columns, columns_of}
 use Rattle.rules.specs.Run.{Moment}
 use Rattle.record.specs.declared.Run.{Run}
 use Rattle.record.specs.Record.{record_of}
+
+-- the run of a moment, as a value: its places past the node records are zero
+abbrev pub run_given : Moment → Run
+run_given moment = record_of moment.run
 
 -- the record's places past the node records are zero after an answer
 abbrev pub run_after : Run → Answer Moment → Run
@@ -30,8 +34,7 @@ zeroed c = record {
 abbrev pub working_after : Columns → Answer Moment → Columns
 working_after working answer = cond (eqb (answer_number answer) (refusal_number Buffer)) working (zeroed working)
 
--- the table before and after, the record before, the answer, what was replied, and the record afterwards
-pub record WentAs (before after : Columns) (r : Run) (answer : Answer Moment) (reply : Reply) (r' : Run) : Type 0 where
-  pub reply_is : reply ≡ reply_of answer
-  pub run_is : r' ≡ run_after r answer
+-- the table before and after, the answer, and the result
+pub record WentAs (before after : Columns) (answer : Answer Moment) (result : Result Run Refusal) : Type 0 where
+  pub result_is : result ≡ result_of run_given answer
   pub table_is : after ≡ table_after before answer

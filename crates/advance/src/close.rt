@@ -1,22 +1,9 @@
 // The end of a task.
-ghost use Rattle.std.specs.Prelude.{◌≡◌};
-ghost use Rattle.refusal.specs.declared.Reply.TheVariants.{Refused};
 ghost use Rattle.advance.specs.Parts.{Closed};
 
-use crate::Went;
-use admit::Next;
 use record::Run;
-use refusal::{Refusal, Reply, refuses};
+use refusal::Refusal;
 use table::clear;
-
-pub fn refused(why: Refusal, r: Run) -> Went
-    ensures { (result.reply ≡ Refused why) × (result.run ≡ r) }
-{
-    Went {
-        reply: Reply::Refused(why),
-        run: r,
-    }
-}
 
 // Where the task was refused, the columns are cleared from the old used count on.
 pub fn closed(
@@ -24,16 +11,12 @@ pub fn closed(
     low: &mut [u32],
     high: &mut [u32],
     used: u32,
-    r: Run,
-    next: Next,
-) -> Went
-    ensures { Closed letter.old low.old high.old letter.new low.new high.new used r next.reply next.run result.reply result.run }
+    next: Result<Run, Refusal>,
+) -> Result<Run, Refusal>
+    ensures { Closed letter.old low.old high.old letter.new low.new high.new used next result }
 {
-    let reply = next.reply;
-    if refuses(reply) {
+    if next.is_err() {
         clear(letter, low, high, used);
-        return Went { reply, run: r };
     }
-    let run = next.run;
-    Went { reply, run }
+    next
 }

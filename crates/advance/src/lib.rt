@@ -1,5 +1,5 @@
 // Start, step and run up to a picosecond on a cell that is laid out flat, with lent columns of legal lengths.
-// Promise: the reply, the run and the table afterwards are those of the definitions (rules' specs/Call.antt); soundness is checked, the
+// Promise: the result, a refusal or the run, and the table afterwards are those of the definitions (rules' specs/Call.antt); soundness is checked, the
 // index built and each entry's least number found once, also for a run of many steps. Internal to our crates: crate run has the calls
 // on files and cells.
 #![tactic(auto)]
@@ -10,20 +10,20 @@ mod steps;
 ghost use Rattle.std.specs.Prelude.{◌≡◌, true};
 ghost use Rattle.refusal.specs.Answer.{answered};
 ghost use Rattle.diagram.specs.Call.{columns, lengths_legal};
-ghost use Rattle.rules.specs.Call.{working_legal};
+ghost use Rattle.rules.specs.Call.{working_legal, start_call};
 ghost use Rattle.table.specs.Holds.{Sized, Lent, Empty};
 ghost use Rattle.net.specs.Net.{net_circuit};
 ghost use Rattle.net.specs.Laid.{Laid};
-ghost use Rattle.advance.specs.declared.Task.TheVariants.{Start, Step, Until};
+ghost use Rattle.advance.specs.declared.Task.TheVariants.{Step, Until};
 ghost use Rattle.advance.specs.Task.{task_call};
 ghost use Rattle.advance.specs.Parts.{Together};
 ghost use Rattle.advance.specs.Went.{WentAs};
 
 use admit::{start, step};
-use close::{closed, refused};
+use close::closed;
 use functions::numbers::NEVER;
 use record::{Run, run_sound, time_after};
-use refusal::{Refusal, Reply};
+use refusal::Refusal;
 use steps::steps;
 use table::sound;
 
@@ -33,13 +33,6 @@ pub enum Task {
     Start(u32),
     Step,
     Until(u32),
-}
-
-// The reply, and the run afterwards: the one before with a refusal.
-#[derive(Clone, Copy)]
-pub struct Went {
-    pub reply: Reply,
-    pub run: Run,
 }
 
 // Whether run and table are sound together; where the table is, the index holds it.
@@ -69,24 +62,23 @@ fn start_task(
     high: &mut [u32],
     index: &mut [u32],
     used: u32,
-    r: Run,
     wletter: &mut [u32],
     wlow: &mut [u32],
     whigh: &mut [u32],
     windex: &mut [u32],
-) -> Went
+) -> Result<Run, Refusal>
     requires laid { Laid (net_circuit net.now) net.now × (lengths_legal (columns letter.old low.old high.old) ≡ true) × (working_legal (columns wletter.old wlow.old whigh.old) ≡ true) }
     requires sized { Sized letter.old low.old high.old index.old × Empty index.old × Lent wletter.old wlow.old whigh.old windex.old }
-    ensures { WentAs (columns letter.old low.old high.old) (columns letter.new low.new high.new) r (task_call (answered (net_circuit net.now)) (Start used) (columns letter.old low.old high.old) r (columns wletter.old wlow.old whigh.old)) result.reply result.run }
+    ensures { WentAs (columns letter.old low.old high.old) (columns letter.new low.new high.new) (start_call (answered (net_circuit net.now)) (columns letter.old low.old high.old) used (columns wletter.old wlow.old whigh.old)) result }
 {
     let k = net[net::LETTERS];
     if !sound(k, letter, low, high, used, index) {
-        return refused(Refusal::Unsound, r);
+        return Err(Refusal::Unsound);
     }
     let next = start(
         net, letter, low, high, index, used, wletter, wlow, whigh, windex,
     );
-    closed(letter, low, high, used, r, next)
+    closed(letter, low, high, used, next)
 }
 
 fn step_task(
@@ -100,23 +92,23 @@ fn step_task(
     wlow: &mut [u32],
     whigh: &mut [u32],
     windex: &mut [u32],
-) -> Went
+) -> Result<Run, Refusal>
     requires laid { Laid (net_circuit net.now) net.now × (lengths_legal (columns letter.old low.old high.old) ≡ true) × (working_legal (columns wletter.old wlow.old whigh.old) ≡ true) }
     requires sized { Sized letter.old low.old high.old index.old × Empty index.old × Lent wletter.old wlow.old whigh.old windex.old }
-    ensures { WentAs (columns letter.old low.old high.old) (columns letter.new low.new high.new) r (task_call (answered (net_circuit net.now)) Step (columns letter.old low.old high.old) r (columns wletter.old wlow.old whigh.old)) result.reply result.run }
+    ensures { WentAs (columns letter.old low.old high.old) (columns letter.new low.new high.new) (task_call (answered (net_circuit net.now)) Step (columns letter.old low.old high.old) r (columns wletter.old wlow.old whigh.old)) result }
 {
     if !sound_together(net, letter, low, high, index, r) {
-        return refused(Refusal::Unsound, r);
+        return Err(Refusal::Unsound);
     }
     let mut least = [0u32; 65536];
     let time = time_after(net, letter, low, high, r, &mut least, 0);
     if time == NEVER {
-        return refused(Refusal::Finished, r);
+        return Err(Refusal::Finished);
     }
     let next = step(
         net, letter, low, high, index, r, wletter, wlow, whigh, windex, time, &mut least,
     );
-    closed(letter, low, high, r.used, r, next)
+    closed(letter, low, high, r.used, next)
 }
 
 fn run_task(
@@ -131,18 +123,18 @@ fn run_task(
     whigh: &mut [u32],
     windex: &mut [u32],
     until: u32,
-) -> Went
+) -> Result<Run, Refusal>
     requires laid { Laid (net_circuit net.now) net.now × (lengths_legal (columns letter.old low.old high.old) ≡ true) × (working_legal (columns wletter.old wlow.old whigh.old) ≡ true) }
     requires sized { Sized letter.old low.old high.old index.old × Empty index.old × Lent wletter.old wlow.old whigh.old windex.old }
-    ensures { WentAs (columns letter.old low.old high.old) (columns letter.new low.new high.new) r (task_call (answered (net_circuit net.now)) (Until until) (columns letter.old low.old high.old) r (columns wletter.old wlow.old whigh.old)) result.reply result.run }
+    ensures { WentAs (columns letter.old low.old high.old) (columns letter.new low.new high.new) (task_call (answered (net_circuit net.now)) (Until until) (columns letter.old low.old high.old) r (columns wletter.old wlow.old whigh.old)) result }
 {
     if !sound_together(net, letter, low, high, index, r) {
-        return refused(Refusal::Unsound, r);
+        return Err(Refusal::Unsound);
     }
     let next = steps(
         net, letter, low, high, index, r, wletter, wlow, whigh, windex, until,
     );
-    closed(letter, low, high, r.used, r, next)
+    closed(letter, low, high, r.used, next)
 }
 
 // A task on a cell laid out flat. `index` is empty; what working holds afterwards is left open here.
@@ -158,14 +150,14 @@ pub fn advance(
     wlow: &mut [u32],
     whigh: &mut [u32],
     windex: &mut [u32],
-) -> Went
+) -> Result<Run, Refusal>
     requires laid { Laid (net_circuit net.now) net.now × (lengths_legal (columns letter.old low.old high.old) ≡ true) × (working_legal (columns wletter.old wlow.old whigh.old) ≡ true) }
     requires sized { Sized letter.old low.old high.old index.old × Empty index.old × Lent wletter.old wlow.old whigh.old windex.old }
-    ensures { WentAs (columns letter.old low.old high.old) (columns letter.new low.new high.new) r (task_call (answered (net_circuit net.now)) task (columns letter.old low.old high.old) r (columns wletter.old wlow.old whigh.old)) result.reply result.run }
+    ensures { WentAs (columns letter.old low.old high.old) (columns letter.new low.new high.new) (task_call (answered (net_circuit net.now)) task (columns letter.old low.old high.old) r (columns wletter.old wlow.old whigh.old)) result }
 {
     match task {
         Task::Start(used) => start_task(
-            net, letter, low, high, index, used, r, wletter, wlow, whigh, windex,
+            net, letter, low, high, index, used, wletter, wlow, whigh, windex,
         ),
         Task::Step => step_task(
             net, letter, low, high, index, r, wletter, wlow, whigh, windex,

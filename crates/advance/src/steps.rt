@@ -12,10 +12,10 @@ ghost use Rattle.net.specs.Net.{letters_place, at as at_place, net_circuit};
 ghost use Rattle.net.specs.Laid.{Laid};
 ghost use Rattle.admit.specs.Reached.{Reached};
 
-use admit::{Next, step};
+use admit::step;
 use functions::numbers::NEVER;
 use record::{Run, time_after};
-use refusal::{Reply, refuses};
+use refusal::Refusal;
 
 // The first entries, 0 past them.
 fn firsts(entries: [u32; 24], count: usize) -> [u32; 24]
@@ -23,11 +23,7 @@ fn firsts(entries: [u32; 24], count: usize) -> [u32; 24]
     ensures { result ≡ padded 24 0 (take count entries) }
 {
     let mut out = [0u32; 24];
-    let mut i = 0;
-    while i < count {
-        out[i] = entries[i];
-        i += 1;
-    }
+    out[..count].copy_from_slice(&entries[..count]);
     out
 }
 
@@ -61,29 +57,22 @@ pub fn steps(
     whigh: &mut [u32],
     windex: &mut [u32],
     until: u32,
-) -> Next
+) -> Result<Run, Refusal>
     requires laid { Laid (net_circuit net.now) net.now × Open (at_place net.now letters_place) letter.old low.old high.old index.old r.used × Lent wletter.old wlow.old whigh.old windex.old }
     requires r_value { run_sound (net_circuit net.now) (held letter.old low.old high.old r.used) (run_of (net_circuit net.now) r) ≡ true }
-    ensures { Reached (held letter.old low.old high.old r.used) (run_moment (net_circuit net.now).horizon.0 (net_circuit net.now) until (length letter.old) (moment_given (columns letter.old low.old high.old) (run_of (net_circuit net.now) r))) letter.new low.new high.new index.new result.reply result.run }
+    ensures { Reached (held letter.old low.old high.old r.used) (run_moment (net_circuit net.now).horizon.0 (net_circuit net.now) until (length letter.old) (moment_given (columns letter.old low.old high.old) (run_of (net_circuit net.now) r))) letter.new low.new high.new index.new result }
 {
     let mut now = tidy(net, r);
     let mut least = [0u32; 65536];
     let mut time = time_after(net, letter, low, high, now, &mut least, 0);
+    // A `while`: it counts nothing; and `&`, so that it ends in one place.
     while (time != NEVER) & (time <= until) {
-        let next = step(
+        let after = step(
             net, letter, low, high, index, now, wletter, wlow, whigh, windex, time, &mut least,
-        );
-        let reply = next.reply;
-        if refuses(reply) {
-            return next;
-        }
-        let after = next.run;
+        )?;
         let done = after.used;
         now = after;
         time = time_after(net, letter, low, high, now, &mut least, done);
     }
-    Next {
-        reply: Reply::Done,
-        run: now,
-    }
+    Ok(now)
 }

@@ -35,10 +35,9 @@ pub fn roots_for(roots: [u32; ALL_ROOTS], n: usize) -> [u32; ROOTS]
     ensures { RootsFor roots n result }
 {
     let mut out = [0u32; ROOTS];
-    let mut j = 0;
-    while j < PENDING {
+    // By index: a proof is told no length of an array that is passed by value, so a slice of it has no bound.
+    for j in 0..PENDING {
         out[j] = roots[j];
-        j += 1;
     }
     out[PENDING] = roots[PENDING + n];
     out
@@ -50,11 +49,7 @@ fn part(entries: &[u32; ROOTS], from: usize) -> [u32; 26]
     ensures { PartOf entries.now from result }
 {
     let mut out = [0u32; 26];
-    let mut j = 0;
-    while j < 26 {
-        out[j] = entries[from + j];
-        j += 1;
-    }
+    out.copy_from_slice(&entries[from..from + 26]);
     out
 }
 
@@ -123,7 +118,7 @@ fn attempt_in(
 pub fn smaller(n: usize) -> usize
     ensures { result ≡ min n first_entries }
 {
-    if n < MOST { n } else { MOST }
+    n.min(MOST)
 }
 
 // Node n by the functions of its group in the first entries of working; where there is no room for them, nothing is stored.

@@ -1,14 +1,10 @@
 // The calls on a table in lent columns: one that stores a function, and one that asks for a number.
-// Promise: for every input the reply, the used count, the entry or number and each column afterwards are those of the definitions
+// Promise: for every input the result, a refusal, the used count and the entry, or the number, and each column afterwards are those of the definitions
 // (crate diagram's specs/Call.antt, by cases in specs/Call.antt): refused 8, 7, 9 or 6 in that order, and then with the columns as they
 // were; nothing is required.
 #![tactic(auto)]
 
-ghost use Rattle.std.specs.Prelude.{◌≡◌};
-ghost use Rattle.refusal.specs.declared.Reply.TheVariants.{Refused};
-
 use diagram::Operation;
-use refusal::{Refusal, Reply};
 
 pub mod close;
 pub mod opening;
@@ -30,36 +26,9 @@ pub enum Ask {
     Count(u32),
 }
 
-// The reply of a call that stores; the used count and the entry afterwards. A refusal leaves the used count, and its entry is 0.
+// The used count and the entry of a call that stored. A refusal leaves the used count.
 #[derive(Clone, Copy)]
 pub struct Stored {
-    pub reply: Reply,
     pub used: u32,
     pub entry: u32,
-}
-
-// The reply of a question, and its number, 0 with a refusal.
-#[derive(Clone, Copy)]
-pub struct Told {
-    pub reply: Reply,
-    pub number: u32,
-}
-
-pub fn refused(why: Refusal, used: u32) -> Stored
-    ensures { (result.reply ≡ Refused why) × (result.used ≡ used) × (result.entry ≡ 0) }
-{
-    Stored {
-        reply: Reply::Refused(why),
-        used,
-        entry: 0,
-    }
-}
-
-pub fn untold(why: Refusal) -> Told
-    ensures { (result.reply ≡ Refused why) × (result.number ≡ 0) }
-{
-    Told {
-        reply: Reply::Refused(why),
-        number: 0,
-    }
 }

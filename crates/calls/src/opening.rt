@@ -68,10 +68,10 @@ pub fn opened(
     ensures { Opened call k letter.now low.now high.now used index.new result }
 {
     if !sound(k, letter, low, high, used, index) {
-        return Reply::Refused(Refusal::Unsound);
+        return Err(Refusal::Unsound);
     }
     if !asked(call, k, letter, low, high, used) {
-        return Reply::Refused(Refusal::Question);
+        return Err(Refusal::Question);
     }
-    Reply::Done
+    Ok(())
 }

@@ -10,11 +10,11 @@ ghost use Rattle.calls.specs.Answered.{StoredAs};
 
 use crate::close::closed;
 use crate::opening::{Call, opened};
-use crate::{Make, Stored, refused};
+use crate::{Make, Stored};
 use functions::choose::choose;
 use operations::apply::apply;
 use operations::fix::fix;
-use refusal::{Refusal, Reply};
+use refusal::Refusal;
 use table::{Put, index_len, lengths_legal};
 
 // On a sound table whose operands were checked.
@@ -46,18 +46,13 @@ fn store_open(
     high: &mut [u32],
     used: u32,
     index: &mut [u32],
-) -> Stored
+) -> Result<Stored, Refusal>
     requires { Sized letter.old low.old high.old index.old × Empty index.old }
-    ensures { StoredAs (columns letter.old low.old high.old) (columns letter.new low.new high.new) used (store_call what k (columns letter.old low.old high.old) used) result.reply result.used result.entry }
+    ensures { StoredAs (columns letter.old low.old high.old) (columns letter.new low.new high.new) (store_call what k (columns letter.old low.old high.old) used) result }
 {
-    let reply = opened(Call::Store(what), k, letter, low, high, used, index);
-    match reply {
-        Reply::Refused(why) => refused(why, used),
-        Reply::Done => {
-            let put = make(what, k, letter, low, high, index, used);
-            closed(letter, low, high, used, put)
-        }
-    }
+    opened(Call::Store(what), k, letter, low, high, used, index)?;
+    let put = make(what, k, letter, low, high, index, used);
+    closed(letter, low, high, used, put)
 }
 
 // Every call that stores.
@@ -68,11 +63,11 @@ pub fn store(
     low: &mut [u32],
     high: &mut [u32],
     used: u32,
-) -> Stored
-    ensures { StoredAs (columns letter.old low.old high.old) (columns letter.new low.new high.new) used (store_call what k (columns letter.old low.old high.old) used) result.reply result.used result.entry }
+) -> Result<Stored, Refusal>
+    ensures { StoredAs (columns letter.old low.old high.old) (columns letter.new low.new high.new) (store_call what k (columns letter.old low.old high.old) used) result }
 {
     if !lengths_legal(letter, low, high) {
-        return refused(Refusal::Buffer, used);
+        return Err(Refusal::Buffer);
     }
     let n = index_len(letter.len());
     let mut index = [0u32; 131072];

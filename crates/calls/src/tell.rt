@@ -6,10 +6,10 @@ ghost use Rattle.functions.specs.Open.{Legible};
 ghost use Rattle.calls.specs.Call.{ask_question, told, tell_call};
 ghost use Rattle.calls.specs.Answered.{ToldAs};
 
+use crate::Ask;
 use crate::opening::{Call, opened};
-use crate::{Ask, Told, untold};
 use operations::read::{count, number};
-use refusal::{Refusal, Reply};
+use refusal::Refusal;
 use table::{index_len, lengths_legal};
 
 // On a sound table whose entry was checked.
@@ -24,15 +24,22 @@ fn answer(what: Ask, k: u32, letter: &[u32], low: &[u32], high: &[u32], used: u3
 }
 
 // Every question.
-pub fn tell(what: Ask, k: u32, letter: &[u32], low: &[u32], high: &[u32], used: u32) -> Told
-    ensures { ToldAs (tell_call what k (columns letter.now low.now high.now) used) result.reply result.number }
+pub fn tell(
+    what: Ask,
+    k: u32,
+    letter: &[u32],
+    low: &[u32],
+    high: &[u32],
+    used: u32,
+) -> Result<u32, Refusal>
+    ensures { ToldAs (tell_call what k (columns letter.now low.now high.now) used) result }
 {
     if !lengths_legal(letter, low, high) {
-        return untold(Refusal::Buffer);
+        return Err(Refusal::Buffer);
     }
     let n = index_len(letter.len());
     let mut index = [0u32; 131072];
-    let reply = opened(
+    opened(
         Call::Tell(what),
         k,
         letter,
@@ -40,12 +47,6 @@ pub fn tell(what: Ask, k: u32, letter: &[u32], low: &[u32], high: &[u32], used: 
         high,
         used,
         &mut index[..n],
-    );
-    match reply {
-        Reply::Refused(why) => untold(why),
-        Reply::Done => Told {
-            reply: Reply::Done,
-            number: answer(what, k, letter, low, high, used),
-        },
-    }
+    )?;
+    Ok(answer(what, k, letter, low, high, used))
 }

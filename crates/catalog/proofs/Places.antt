@@ -7,13 +7,14 @@ use native.Mathlib.Omega.{arith}
 use lib.ListN.{length, get_or, set, replicate}
 use borrow.Author.Tests.{lt-ltb, le-ltb}
 use Rattle.refusal.specs.declared.Refusal.TheVariants.{Question}
-use Rattle.refusal.specs.Answer.{refused, answered}
+use Rattle.refusal.specs.Answer.{answered}
 use Rattle.format.specs.declared.Transistor.{Transistor}
 use Rattle.format.specs.Circuit.{Circuit, no_transistor}
 use Rattle.format.specs.Saved.{saved_in, save_cell}
 use Rattle.cell.specs.Value.{firsts}
-use Rattle.writer.specs.declared.Saving.{Saving}
-use Rattle.writer.specs.Saving.{saving, Saves}
+use Rattle.std.specs.Prelude.{Result, Err}
+use Rattle.refusal.specs.declared.Refusal.{Refusal}
+use Rattle.writer.specs.Saving.{Saves}
 use Rattle.writer.proofs.Saves.{saves_refused, saves_as}
 use Rattle.catalog.specs.Lists.{listed_at}
 use Rattle.catalog.specs.Small.{other_ends, transistor, small_cell, small_cells, small_file}
@@ -62,10 +63,10 @@ two_by p t u h g e f k =
     ∙ ap answered (sym k)
 
 -- the file: a place past the last, and a cell that was saved
-pub small_past : (out : List ℕ) (p : ℕ) {given : Saving} → 9312 ≤ p → given ≡ saving (refused Question) → Saves out out (small_file (length out) p) given
+pub small_past : (out : List ℕ) (p : ℕ) → 9312 ≤ p → Saves out out (small_file (length out) p) (Err Question)
 unfolding saved_in
-small_past out p h e = saves_refused out (small_file (length out) p) Question (ap (saved_in (length out)) (listed_none p h)) e
+small_past out p h = saves_refused out (small_file (length out) p) Question (ap (saved_in (length out)) (listed_none p h))
 
-pub small_saved : (before after : List ℕ) (p : ℕ) (c : Circuit) {given : Saving} → listed_at small_cells p ≡ answered c → Saves before after (save_cell (length before) c) given
+pub small_saved : (before after : List ℕ) (p : ℕ) (c : Circuit) {given : Result ℕ Refusal} → listed_at small_cells p ≡ answered c → Saves before after (save_cell (length before) c) given
     → Saves before after (small_file (length before) p) given
 small_saved before after p c e s = saves_as (ap (saved_in (length before)) (e ∙ sym (small_shape p c e).legal)) s

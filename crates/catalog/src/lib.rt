@@ -15,7 +15,7 @@ use cell::Cell;
 use format::{Entry, Header, Node, Transistor};
 use refusal::Refusal;
 use units::{Femtofarads, Ohms, Picoseconds};
-use writer::{Saving, refused, save_cell};
+use writer::save_cell;
 
 const TRANSISTORS: u32 = 96;
 
@@ -102,11 +102,11 @@ fn cell_at(place: u32) -> Cell
 }
 
 // The file of the cell at a place: 9 past the last, then 8.
-pub fn save_small(out: &mut [u8], place: u32) -> Saving
+pub fn save_small(out: &mut [u8], place: u32) -> Result<u32, Refusal>
     ensures { Saves out.old out.new (small_file (length out.old) place) result }
 {
     if CELLS <= place {
-        return refused(Refusal::Question);
+        return Err(Refusal::Question);
     }
     let cell = cell_at(place);
     save_cell(out, cell)

@@ -2,16 +2,13 @@
 use mathlib.Core.Path.{◌≡◌, sym, ◌∙◌, ap, ap₂}
 use mathlib.Core.Logic.{⊎_elim}
 use mathlib.Core.List.{List}
-use mathlib.Core.Bool.{Bool, true, false, not}
-use Prim.Native.Nat.{ℕ, ◌+◌, ◌^◌, ◌<◌, ◌≤◌}
+use mathlib.Core.Bool.{Bool, true, not}
+use Prim.Native.Nat.{ℕ, ◌+◌, ◌<◌, ◌≤◌}
 use native.Mathlib.Omega.{arith}
 use lib.ListN.{get_or}
-use lib.Dec.{ltb}
-use lib.Pow.{pow_mono}
-use borrow.Author.Tests.{ltb-true, ltb-false}
 use Rattle.lists.specs.Tests.{below}
 use Rattle.format.specs.Circuit.{Circuit}
-use Rattle.diagram.specs.Pattern.{most_letters, patterns}
+use Rattle.diagram.specs.Pattern.{patterns}
 use Rattle.diagram.specs.Table.{Table, never}
 use Rattle.diagram.specs.Held.{held}
 use Rattle.rules.specs.State.{State, value_at, change_at}
@@ -24,21 +21,18 @@ use Rattle.functions.proofs.Carry.{legible_sound}
 use Rattle.net.specs.Net.{letters_place, at, net_circuit}
 use Rattle.net.specs.Laid.{Laid}
 use Rattle.net.proofs.Laying.{nodes_length, letters_at}
-use Rattle.plain.specs.Pattern.{shown_by, Bits, NoneExceeded, Filled}
+use Rattle.std.specs.Prelude.{Result, Ok, Err, is_err}
+use Rattle.units.specs.declared.AboveCeiling.{AboveCeiling}
+use Rattle.plain.specs.declared.State as plain
+use Rattle.plain.specs.Pattern.{shown_by, Bits, NoneExceeded, Filled, Goes}
 use Rattle.plain.proofs.Fill.{filled_column, filled_shown, filled_bits}
 use Rattle.record.specs.declared.Run.{Run}
 use Rattle.record.specs.Record.{run_of}
 
--- the loop's test
-pub is_pattern : (k p : ℕ) {b : Bool} → b ≡ ltb p (patterns k) → b ≡ true → p < patterns k
-is_pattern k p e f = ltb-true p (patterns k) (sym e ∙ f)
-
-pub no_pattern : (k p : ℕ) {b : Bool} → p ≤ patterns k → b ≡ ltb p (patterns k) → b ≡ false → p ≡ patterns k
-no_pattern k p most e f = let least : patterns k ≤ p = ltb-false p (patterns k) (sym e ∙ f) in omega arith
-
--- there are few patterns
-pub pattern_small : {k p : ℕ} → k ≤ most_letters → p < patterns k → p < 4096
-pattern_small {k} few h = let most : 2 ^ k ≤ 4096 = pow_mono few in omega arith
+-- whether a start or a step is refused
+pub goes_err : (c : Circuit) (over : Bool) (next : State) (x : Result plain.State AboveCeiling) → Goes c over next x → is_err x ≡ over
+goes_err c over next (Ok s) g = sym g.0
+goes_err c over next (Err e) g = sym g
 
 module _ (net l w h : List ℕ) (r : Run) (laid : Laid (net_circuit net) net) (o : Legible (at net letters_place) l w h r.used)
     (sound : run_sound (net_circuit net) (held l w h r.used) (run_of (net_circuit net) r) ≡ true) (p : ℕ) (is : p < patterns (at net letters_place)) where

@@ -3,7 +3,7 @@ use Prim.Native.Nat.{ℕ, zero, suc, ◌<◌, ◌≤◌}
 use mathlib.Core.Path.{◌≡◌, refl, ap}
 use mathlib.Core.List.{List, [], ◌∷◌}
 use native.Mathlib.Omega.{arith}
-use lib.ListN.{length, get_or, get_or-eq_default}
+use lib.ListN.{length, get_or, take, get_or-eq_default}
 use Rattle.cell.specs.Value.{firsts}
 
 module _ {A : Type 0} (d : A) where
@@ -28,3 +28,10 @@ module _ {A : Type 0} (d : A) where
 
   pub firsts_past : (n : ℕ) (xs : List A) (i : ℕ) → n ≤ i → get_or (firsts n d xs) i d ≡ d
   firsts_past n xs i h = get_or-eq_default (firsts n d xs) d {n = i} (omega (arith, length_firsts n xs))
+
+  -- where the list is long enough they are its first n
+  pub firsts_take : (n : ℕ) (xs : List A) → n ≤ length xs → firsts n d xs ≡ take n xs
+  unfolding firsts
+  firsts_take zero xs h = refl
+  firsts_take (suc n) [] h = absurd (omega arith)
+  firsts_take (suc n) (x ∷ xs) h = ap (λ (ys : List A). x ∷ ys) (firsts_take n xs (omega arith))

@@ -1,79 +1,43 @@
--- The loops over the first n places of an array: what is asked of all of them is what is asked from place i on.
-use Prim.Native.Nat.{ℕ, zero, suc, ◌+◌, ◌-◌, ◌<◌, ◌≤◌}
-use mathlib.Core.Path.{◌≡◌, refl, ap, sym, ◌∙◌}
-use mathlib.Core.List.{List, [], ◌∷◌}
-use mathlib.Core.Bool.{Bool, true, false, ◌&&◌}
-use native.Mathlib.Numerals.{add-one}
-use native.Mathlib.Omega.{arith}
-use lib.ListN.{get_or, drop, drop_of_length-le}
-use lib.Seq.{drop-cons}
+-- The first n places of an array: what `all` and `is_sorted_by` answer of them is what the definitions ask.
+use Rattle.std.proofs.Common.{◌≡◌, ℕ, zero, suc, ◌<◌, ◌≤◌, Bool, true, false, ◌&&◌, List, [], ◌∷◌, length, get_or, take, refl, sym, ◌∙◌, add-one, ap, arith}
+use Rattle.std.specs.Prelude.{IsTrue, ◌↔◌, EachIndex}
+use Rattle.std.specs.List.{IsAllAdjacentAnswer}
 use Rattle.format.specs.declared.Entry.{Entry}
 use Rattle.format.specs.Circuit.{every, no_entry}
 use Rattle.format.specs.Legal.{before, rising_from, rising}
+use Rattle.lists.proofs.Cases.{and_both}
+use Rattle.records.proofs.All.{all_every}
 use Rattle.cell.specs.Value.{firsts}
-use Rattle.cell.proofs.Firsts.{length_firsts, firsts_at}
-
--- a conjunction at its first part
-and_first : {t a : Bool} (b : Bool) → t ≡ a → t ≡ false → a && b ≡ false
-and_first b e f = rw (← e, f)
-
-and_rest : {t a : Bool} (b : Bool) → t ≡ a → t ≡ true → a && b ≡ b
-and_rest b e f = rw (← e, f)
-
--- the first n places of xs from place i on
-abbrev pub rest : {A : Type 0} → ℕ → A → List A → ℕ → List A
-rest n d xs i = drop i (firsts n d xs)
-
-module _ {A : Type 0} (n : ℕ) (d : A) (xs : List A) where
-  rest_cons : (i : ℕ) → i < n → rest n d xs i ≡ get_or xs i d ∷ rest n d xs (i + 1)
-  rest_cons i h =
-      rw (add-one, drop-cons (firsts n d xs) i d (omega (arith, length_firsts d n xs)), firsts_at d n xs i h)
-
-  rest_end : (i : ℕ) → n ≤ i → rest n d xs i ≡ []
-  rest_end i h = drop_of_length-le (firsts n d xs) {i = i} (omega (arith, length_firsts d n xs))
+use Rattle.cell.proofs.Firsts.{firsts_take}
 
 -- every element passes a test
-module _ {A : Type 0} (test : A → Bool) (n : ℕ) (d : A) (xs : List A) where
-  abbrev pub EveryFrom : ℕ → Type 0
-  EveryFrom i = every test (firsts n d xs) ≡ every test (rest n d xs i)
+pub all_firsts : {A : Type 0} (test : A → Bool) (n : ℕ) (d : A) (xs : List A) (b : Bool) → n ≤ length xs
+    → IsTrue b ↔ EachIndex (take n xs) (λ k. test (get_or (take n xs) k d) ≡ true) → b ≡ every test (firsts n d xs)
+all_firsts test n d xs b h e = all_every test d (take n xs) b e ∙ ap (every test) (sym (firsts_take d n xs h))
 
-  every_cons : (i : ℕ) → i < n → every test (rest n d xs i) ≡ test (get_or xs i d) && every test (rest n d xs (i + 1))
-  unfolding every
-  every_cons i h = ap (every test) (rest_cons n d xs i h)
+-- each entry stands before the next
+rises : (a : Entry) (es : List Entry) → ((k : ℕ) → k < length es → before (get_or (a ∷ es) k no_entry) (get_or es k no_entry) ≡ true) → rising_from a es ≡ true
+unfolding rising_from
+rises a [] h = refl
+rises a (b ∷ es) h = and_both _ _ (h zero (omega arith)) (rises b es (λ k g. h (suc k) (omega arith)))
 
-  pub every_fails : (i : ℕ) {t : Bool} → i < n → EveryFrom i → t ≡ test (get_or xs i d) → t ≡ false → false ≡ every test (firsts n d xs)
-  every_fails i h from e f = sym (from ∙ every_cons i h ∙ and_first _ e f)
+-- one does not
+fails : (t : Bool) → t && false ≡ false
+fails true = refl
+fails false = refl
 
-  pub every_next : (i : ℕ) {t : Bool} → i < n → EveryFrom i → t ≡ test (get_or xs i d) → t ≡ true → EveryFrom (i + 1)
-  every_next i h from e f = from ∙ every_cons i h ∙ and_rest _ e f
+falls : (a : Entry) (es : List Entry) (k : ℕ) → k < length es → before (get_or (a ∷ es) k no_entry) (get_or es k no_entry) ≡ false → rising_from a es ≡ false
+unfolding rising_from
+falls a [] k g e = absurd (omega arith)
+falls a (b ∷ es) zero g e = rw e
+falls a (b ∷ es) (suc k) g e = rw (falls b es k (omega arith) e) (fails (before a b))
 
-  pub every_ends : (i : ℕ) → n ≤ i → EveryFrom i → true ≡ every test (firsts n d xs)
-  unfolding every
-  every_ends i h from = sym (from ∙ ap (every test) (rest_end n d xs i h))
+sorted_rising : (es : List Entry) (b : Bool) → IsAllAdjacentAnswer (λ x y t. t ≡ before x y) es b → b ≡ rising es
+unfolding rising
+sorted_rising [] true h = refl
+sorted_rising [] false h = absurd (omega (arith, h.1))
+sorted_rising (e ∷ es) true h = sym (rises e es (λ k g. sym (rw add-one at (h k no_entry (omega arith)))))
+sorted_rising (e ∷ es) false h = sym (falls e es h.0 (omega (arith, h.1)) (sym (rw add-one at (h.2 no_entry))))
 
--- the schedule rises
-module _ (n : ℕ) (es : List Entry) where
-  abbrev pub RisingFrom : ℕ → Type 0
-  RisingFrom i = rising (firsts n no_entry es) ≡ rising_from (get_or es (i - 1) no_entry) (rest n no_entry es i)
-
-  rising_cons : (i : ℕ) → i < n → (a : Entry) → rising_from a (rest n no_entry es i) ≡ before a (get_or es i no_entry) && rising_from (get_or es i no_entry) (rest n no_entry es (i + 1))
-  unfolding rising_from
-  rising_cons i h a = ap (rising_from a) (rest_cons n no_entry es i h)
-
-  pub rising_fails : (i : ℕ) {t : Bool} → i < n → RisingFrom i → t ≡ before (get_or es (i - 1) no_entry) (get_or es i no_entry) → t ≡ false → false ≡ rising (firsts n no_entry es)
-  rising_fails i h from e f = sym (from ∙ rising_cons i h _ ∙ and_first _ e f)
-
-  pub rising_next : (i : ℕ) {t : Bool} → i < n → RisingFrom i → t ≡ before (get_or es (i - 1) no_entry) (get_or es i no_entry) → t ≡ true → RisingFrom (i + 1)
-  rising_next i h from e f =
-      let back : i + 1 - 1 ≡ i = omega arith in
-      rw back (from ∙ rising_cons i h _ ∙ and_rest _ e f)
-
-  pub rising_ends : (i : ℕ) → n ≤ i → RisingFrom i → true ≡ rising (firsts n no_entry es)
-  unfolding rising_from
-  rising_ends i h from = sym (from ∙ ap (rising_from _) (rest_end n no_entry es i h))
-
-pub rising_starts : (n : ℕ) (es : List Entry) → RisingFrom n es 1
-unfolding rising rising_from firsts
-rising_starts zero es = refl
-rising_starts (suc n) [] = refl
-rising_starts (suc n) (e ∷ es) = refl
+pub sorted_firsts : (n : ℕ) (es : List Entry) (b : Bool) → n ≤ length es → IsAllAdjacentAnswer (λ x y t. t ≡ before x y) (take n es) b → b ≡ rising (firsts n no_entry es)
+sorted_firsts n es b h a = sorted_rising (take n es) b a ∙ ap rising (sym (firsts_take no_entry n es h))

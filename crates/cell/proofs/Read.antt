@@ -9,7 +9,7 @@ use lib.ListN.{length, take, length-map, length-take, replicate}
 use lib.Seq.{length-take-le}
 use lib.Dec.{leb, eqb}
 use Rattle.refusal.specs.declared.Refusal.TheVariants.{Length, Header, Chain, Record, Order}
-use Rattle.refusal.specs.declared.Reply.TheVariants.{Done}
+use Rattle.std.specs.Prelude.{Ok}
 use Rattle.refusal.specs.Answer.{answered, refused, check}
 use Rattle.format.specs.declared.Header as header
 use Rattle.format.specs.declared.Node.{Node}
@@ -46,9 +46,9 @@ circuit_of_cell c = λ i. record {
   schedule = firsts_padded most_entries no_entry c.schedule i;
 }
 
-pub done : {c : Cell} (x : Circuit) → c ≡ cell_of x → record { reply = Done; cell = c } ≡ reading (answered x)
+pub done : {c : Cell} (x : Circuit) → c ≡ cell_of x → Ok c ≡ reading (answered x)
 unfolding reading
-done x e = λ i. record { reply = Done; cell = e i }
+done x e = ap (λ (c : Cell). Ok c) e
 
 -- The cell of the first records of three arrays.
 module _ (file : List ℕ) (h : header.Header) (ns ts es : List ℕ) where

@@ -21,55 +21,60 @@ const MOST_CAPACITANCE: u64 = 65535;
 fn within(least: u64, most: u64, x: u64) -> bool
     ensures { result ≡ defined.within least most x }
 {
-    (least <= x) & (x <= most)
+    least <= x && x <= most
 }
 
 // Refusal 2.
 pub fn limits_kept(h: Header) -> bool
     ensures { result ≡ limits_kept h }
 {
-    within(1, Cell::MOST_NODES as u64, h.nodes as u64)
-        & within(1, Cell::MOST_TRANSISTORS as u64, h.transistors as u64)
-        & (h.entries <= Cell::MOST_ENTRIES)
-        & (h.letters <= Cell::MOST_LETTERS)
-        & within(1, Cell::MOST_HORIZON, h.horizon.0)
+    within(1, u64::from(Cell::MOST_NODES), u64::from(h.nodes))
+        && within(
+            1,
+            u64::from(Cell::MOST_TRANSISTORS),
+            u64::from(h.transistors),
+        )
+        && h.entries <= Cell::MOST_ENTRIES
+        && h.letters <= Cell::MOST_LETTERS
+        && within(1, Cell::MOST_HORIZON, h.horizon.0)
 }
 
 fn source_legal(letters: u32, source: u8) -> bool
     requires { letters ≤ most_letters }
     ensures { result ≡ source_legal letters source }
 {
-    (source as u32) < 2 + 2 * letters
+    u32::from(source) < 2 + 2 * letters
 }
 
 fn node_legal(letters: u32, n: Node) -> bool
     requires { letters ≤ most_letters }
     ensures { result ≡ node_legal letters n }
 {
-    let source = source_legal(letters, n.start);
-    if n.role == INNER {
-        return source & within(1, MOST_CAPACITANCE, n.capacitance.0 as u64);
-    }
-    source & ((n.role == INPUT) & (n.capacitance.0 == 0))
+    source_legal(letters, n.start)
+        && if n.role == INNER {
+            within(1, MOST_CAPACITANCE, u64::from(n.capacitance.0))
+        } else {
+            n.role == INPUT && n.capacitance.0 == 0
+        }
 }
 
 fn node_number(nodes: u32, n: u8) -> bool
     requires { nodes ≤ most_nodes }
     ensures { result ≡ node_number nodes n }
 {
-    (n as u32) < FIRST_NODE_NUMBER as u32 + nodes
+    u32::from(n) < u32::from(FIRST_NODE_NUMBER) + nodes
 }
 
 fn transistor_legal(nodes: u32, t: Transistor) -> bool
     requires { nodes ≤ most_nodes }
     ensures { result ≡ transistor_legal nodes t }
 {
-    (t.polarity <= 1)
-        & node_number(nodes, t.gate)
-        & node_number(nodes, t.first)
-        & node_number(nodes, t.second)
-        & (t.first != t.second)
-        & within(1, Cell::MOST_RESISTANCE, t.resistance.0 as u64)
+    t.polarity <= 1
+        && node_number(nodes, t.gate)
+        && node_number(nodes, t.first)
+        && node_number(nodes, t.second)
+        && t.first != t.second
+        && within(1, Cell::MOST_RESISTANCE, u64::from(t.resistance.0))
 }
 
 fn is_input(cell: Cell, n: u8) -> bool
@@ -80,12 +85,7 @@ fn is_input(cell: Cell, n: u8) -> bool
         return false;
     }
     let at = (n - FIRST_NODE_NUMBER) as usize;
-    let count = cell.header.nodes as usize;
-    if count <= at {
-        return false;
-    }
-    let node = cell.nodes[at];
-    node.role == INPUT
+    at < cell.header.nodes as usize && cell.nodes[at].role == INPUT
 }
 
 fn entry_legal(cell: Cell, e: Entry) -> bool
@@ -93,23 +93,17 @@ fn entry_legal(cell: Cell, e: Entry) -> bool
     ensures { result ≡ entry_legal (circuit_of cell) e }
 {
     is_input(cell, e.input)
-        & source_legal(cell.header.letters, e.source)
-        & within(1, cell.header.horizon.0, e.time.0)
+        && source_legal(cell.header.letters, e.source)
+        && within(1, cell.header.horizon.0, e.time.0)
 }
 
 fn nodes_legal(letters: u32, nodes: [Node; Cell::MOST_NODES as usize], count: u32) -> bool
     requires { (letters ≤ most_letters) × (count ≤ most_nodes) }
     ensures { result ≡ every (node_legal letters) (firsts count no_node nodes) }
 {
-    let n = count as usize;
-    let mut i = 0;
-    while i < n {
-        if !node_legal(letters, nodes[i]) {
-            return false;
-        }
-        i += 1;
-    }
-    true
+    nodes[..count as usize]
+        .iter()
+        .all(|n| node_legal(letters, *n))
 }
 
 fn transistors_legal(
@@ -120,30 +114,18 @@ fn transistors_legal(
     requires { (nodes ≤ most_nodes) × (count ≤ most_transistors) }
     ensures { result ≡ every (transistor_legal nodes) (firsts count no_transistor transistors) }
 {
-    let n = count as usize;
-    let mut i = 0;
-    while i < n {
-        if !transistor_legal(nodes, transistors[i]) {
-            return false;
-        }
-        i += 1;
-    }
-    true
+    transistors[..count as usize]
+        .iter()
+        .all(|t| transistor_legal(nodes, *t))
 }
 
 fn entries_legal(cell: Cell) -> bool
     requires { Counted cell.header }
     ensures { result ≡ every (entry_legal (circuit_of cell)) (circuit_of cell).schedule }
 {
-    let n = cell.header.entries as usize;
-    let mut i = 0;
-    while i < n {
-        if !entry_legal(cell, cell.schedule[i]) {
-            return false;
-        }
-        i += 1;
-    }
-    true
+    cell.schedule[..cell.header.entries as usize]
+        .iter()
+        .all(|e| entry_legal(cell, *e))
 }
 
 // Refusal 4.
@@ -152,17 +134,15 @@ pub fn fields_legal(cell: Cell) -> bool
     ensures { result ≡ fields_legal (circuit_of cell) }
 {
     let header = cell.header;
-    let nodes = cell.nodes;
-    let transistors = cell.transistors;
-    nodes_legal(header.letters, nodes, header.nodes)
-        & transistors_legal(header.nodes, transistors, header.transistors)
-        & entries_legal(cell)
+    nodes_legal(header.letters, cell.nodes, header.nodes)
+        && transistors_legal(header.nodes, cell.transistors, header.transistors)
+        && entries_legal(cell)
 }
 
 fn before(a: Entry, b: Entry) -> bool
     ensures { result ≡ defined.before a b }
 {
-    (a.time.0 < b.time.0) | ((a.time.0 == b.time.0) & (a.input < b.input))
+    a.time.0 < b.time.0 || (a.time.0 == b.time.0 && a.input < b.input)
 }
 
 // Refusal 5.
@@ -170,13 +150,5 @@ pub fn rising(schedule: [Entry; Cell::MOST_ENTRIES as usize], count: u32) -> boo
     requires { count ≤ most_entries }
     ensures { result ≡ defined.rising (firsts count no_entry schedule) }
 {
-    let n = count as usize;
-    let mut i = 1;
-    while i < n {
-        if !before(schedule[i - 1], schedule[i]) {
-            return false;
-        }
-        i += 1;
-    }
-    true
+    schedule[..count as usize].is_sorted_by(|a, b| before(*a, *b))
 }

@@ -1,6 +1,6 @@
 // The cell as a value with its limits, the check of a cell handed over as a value, and the reader of a cell file.
 // Promise: for every value and every list of bytes the answer is that of the definitions of `format`, by its number and by its value.
-// Nothing is required of a caller. A refused file gives a cell of zeros.
+// Nothing is required of a caller.
 #![tactic(auto)]
 
 mod legal;
@@ -15,7 +15,7 @@ ghost use Rattle.cell.specs.Value.{circuit_of, reading};
 
 use format::{Entry, Header, Node, Transistor};
 use records::bytes;
-use refusal::{Refusal, Reply};
+use refusal::Refusal;
 
 // A cell: places past the header's counts are zero in one that was read, and not looked at in one handed over.
 #[derive(Clone, Copy)]
@@ -24,13 +24,6 @@ pub struct Cell {
     pub nodes: [Node; Cell::MOST_NODES as usize],
     pub transistors: [Transistor; Cell::MOST_TRANSISTORS as usize],
     pub schedule: [Entry; Cell::MOST_ENTRIES as usize],
-}
-
-// The reader's answer.
-#[derive(Clone, Copy)]
-pub struct Reading {
-    pub reply: Reply,
-    pub cell: Cell,
 }
 
 impl Cell {
@@ -51,36 +44,36 @@ impl Cell {
         * (1 + Cell::MOST_NODES + Cell::MOST_TRANSISTORS + Cell::MOST_ENTRIES) as usize;
 
     // A cell handed over as a value: 2, then 4, then 5.
-    pub fn check(self) -> Reply
+    pub fn check(self) -> Result<(), Refusal>
         ensures { result ≡ reply_of (check_circuit (circuit_of self)) }
     {
         let header = self.header;
         if !legal::limits_kept(header) {
-            return Reply::Refused(Refusal::Header);
+            return Err(Refusal::Header);
         }
         if !legal::fields_legal(self) {
-            return Reply::Refused(Refusal::Record);
+            return Err(Refusal::Record);
         }
         let schedule = self.schedule;
         if !legal::rising(schedule, header.entries) {
-            return Reply::Refused(Refusal::Order);
+            return Err(Refusal::Order);
         }
-        Reply::Done
+        Ok(())
     }
 
     // A cell file of any bytes: 1 by its first 16 bytes, 2, 1 by its full length, 3, 4, 5.
-    pub fn read(file: &[u8]) -> Reading
+    pub fn read(file: &[u8]) -> Result<Cell, Refusal>
         ensures { result ≡ reading (read_cell file.now) }
     {
         if file.len() < size::RECORD_SIZE {
-            return reader::refused(Refusal::Length);
+            return Err(Refusal::Length);
         }
         let header = bytes::file_header(file);
         if !reader::header_legal(file, header) {
-            return reader::refused(Refusal::Header);
+            return Err(Refusal::Header);
         }
         if file.len() != size::stated_length(header) {
-            return reader::refused(Refusal::Length);
+            return Err(Refusal::Length);
         }
         reader::read_chains(file, header)
     }

@@ -5,7 +5,7 @@ use mathlib.Core.List.{List}
 use mathlib.Core.Bool.{Bool, cond}
 use Prim.Native.Nat.{ℕ, ◌+◌, ◌-◌, ◌≤◌, ◌<◌}
 use native.Mathlib.Omega.{arith}
-use lib.ListN.{length, get_or}
+use lib.ListN.{get_or}
 use Rattle.lists.proofs.Cases.{lt_or_ge}
 use Rattle.lists.proofs.Map.{map_same}
 use Rattle.format.specs.Circuit.{Circuit, first_node_number}

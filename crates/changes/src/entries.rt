@@ -25,12 +25,8 @@ fn entries_with(before: [u32; 26], after: [u32; 26], change: u32) -> [u32; ROOTS
     ensures { result ≡ entries_with before after change }
 {
     let mut out = [0u32; ROOTS];
-    let mut j = 0;
-    while j < 26 {
-        out[j] = before[j];
-        out[AFTER + j] = after[j];
-        j += 1;
-    }
+    out[..AFTER].copy_from_slice(&before);
+    out[AFTER..CHANGE].copy_from_slice(&after);
     out[CHANGE] = change;
     out
 }
@@ -93,8 +89,7 @@ pub fn all_by_entries(
     let count = net[net::NODES] as usize;
     let mut out = [0u32; 24];
     let mut now = used;
-    let mut i = 0;
-    while i < count {
+    for i in 0..count {
         let entries = entries_with(before, after, pending[i + 2]);
         let p = by_entries(
             net,
@@ -122,7 +117,6 @@ pub fn all_by_entries(
         }
         out[i] = p.entry;
         now = p.used;
-        i += 1;
     }
     Many {
         stop: Stop::Going,

@@ -1,10 +1,10 @@
 -- The calls by value keep the laws of an interface.
+use Rattle.std.proofs.Common.{Result}
 use mathlib.Core.Path.{◌≡◌, refl, sym, ◌∙◌, ap, subst}
 use Prim.Native.Nat.{ℕ}
-use native.Mathlib.Omega.{arith}
-use Rattle.refusal.specs.declared.Reply.{Reply}
-use Rattle.refusal.specs.Number.{reply_number}
-use Rattle.refusal.specs.Answer.{Answer, refused, answered, answer_number, reply_of}
+use Rattle.refusal.specs.declared.Refusal.{Refusal}
+use Rattle.refusal.specs.Number.{Reply, reply_number}
+use Rattle.refusal.specs.Answer.{Answer, refused, answered, answer_number, reply_of, result_of}
 use Rattle.refusal.proofs.Answer.{reply_number_lem}
 use Rattle.format.specs.Circuit.{Circuit}
 use Rattle.format.specs.Legal.{check_circuit}
@@ -12,7 +12,6 @@ use Rattle.format.proofs.Check.{check_same}
 use Rattle.cell.specs.declared.Cell.{Cell}
 use Rattle.cell.specs.Value.{circuit_of}
 use Rattle.diagram.specs.Call.{Columns, fresh_call}
-use Rattle.rules.specs.Run as defined
 use Rattle.rules.specs.Run.{Moment}
 use Rattle.rules.specs.Call.{Wire, ask_call}
 use Rattle.record.specs.declared.Run.{Run}
@@ -21,8 +20,11 @@ use Rattle.record.proofs.Record.{run_of_record}
 use Rattle.advance.specs.declared.Task.{Task}
 use Rattle.advance.specs.declared.Task.TheVariants.{Start, Step, Until}
 use Rattle.advance.specs.Task.{run_in, task_call}
-use Rattle.advance.specs.Went.{run_after, table_after, working_after}
-use Rattle.run.specs.Asked.{value_after, change_after}
+use Rattle.advance.specs.Went.{run_given, run_after, table_after, working_after}
+use Rattle.run.specs.Asked.{wire_given}
+use Rattle.record.specs.declared.Wire as given
+use Rattle.editor.specs.Functions.{result_number, after_reply}
+use Rattle.editor.proofs.Handed.{result_number_lem}
 use Rattle.commute.specs.Interface.{Held}
 use Rattle.commute.specs.Lists.{Call, step, in_place, up_to, Made}
 use Rattle.commute.proofs.Lawful.{answer_of, left, Went, Asked, Lawful}
@@ -32,6 +34,15 @@ use Rattle.demand.specs.ByValue.{on_value, asked_by_value, by_value}
 number_of : {A : Type 0} (answer : Answer A) (reply : Reply) (number : ℕ) → number ≡ reply_number reply → reply ≡ reply_of answer → number ≡ answer_number answer
 number_of answer reply number e e' = e ∙ ap reply_number e' ∙ reply_number_lem answer
 
+-- and so is a result's
+result_number_of : {A B : Type 0} (f : A → B) (answer : Answer A) (result : Result B Refusal) (number : ℕ) → number ≡ result_number result → result ≡ result_of f answer → number ≡ answer_number answer
+result_number_of f answer result number e e' = e ∙ ap {B = ℕ} result_number e' ∙ result_number_lem f answer
+
+-- with a refusal the run is the old one
+run_kept : (r : Run) (answer : Answer Moment) → after_reply r (result_of run_given answer) (λ (x : Run). x) ≡ run_after r answer
+run_kept r (refused why) = refl
+run_kept r (answered m) = refl
+
 -- columns and record after an answer, as one
 held_after : (h h' : Held Run) (answer : Answer Moment) → h'.table ≡ table_after h.table answer → h'.run ≡ run_after h.run answer → h' ≡ left record_of h answer
 held_after h h' (refused why) e e' = λ i. record { table = e i; run = e' i }
@@ -40,9 +51,10 @@ held_after h h' (answered m) e e' = λ i. record { table = e i; run = e' i }
 -- a task
 task_went : (v : Cell) (task : Task) (h h' : Held Run) (working working' : Columns) (number : ℕ) → on_value v task h h' working working' number
     → Went record_of (task_call (check_circuit (circuit_of v)) task h.table h.run working) h h' number
-task_went v task h h' working working' number (reply, e, done) =
+task_went v task h h' working working' number (result, e, kept, done) =
     let a : Answer Moment = task_call (check_circuit (circuit_of v)) task h.table h.run working in
-    record { number_is = number_of a reply number e done.reply_is; held_is = held_after h h' a done.table_is done.run_is }
+    let run : h'.run ≡ run_after h.run a = kept ∙ ap (λ (x : Result Run Refusal). after_reply h.run x (λ (y : Run). y)) done.result_is ∙ run_kept h.run a in
+    record { number_is = result_number_of run_given a result number e done.result_is; held_is = held_after h h' a done.table_is run }
 
 module _ (v : Cell) (c : Circuit) (cell : check_circuit (circuit_of v) ≡ answered c) where
   -- the cell in place of its check
@@ -65,18 +77,18 @@ module _ (v : Cell) (c : Circuit) (cell : check_circuit (circuit_of v) ≡ answe
       let held : h' ≡ left record_of h a = went.held_is ∙ ap (left record_of h) e in (
         working_after working a,
         (
-          reply_of a,
-          went.number_is ∙ ap {B = ℕ} answer_number e ∙ sym (reply_number_lem a),
+          result_of run_given a,
+          went.number_is ∙ ap {B = ℕ} answer_number e ∙ sym (result_number_lem run_given a),
+          ap (λ (x : Held Run). x.run) held ∙ run a,
           record {
-            reply_is = refl;
-            run_is = ap (λ (x : Held Run). x.run) held ∙ run a;
+            result_is = refl;
             table_is = ap (λ (x : Held Run). x.table) held ∙ table a;
             working_is = refl;
           },
         ),
       )
     where
-      run : (a : Answer Moment) → (left record_of h a).run ≡ run_after h.run a
+      run : (a : Answer Moment) → (left record_of h a).run ≡ after_reply h.run (result_of run_given a) (λ (x : Run). x)
       run (refused why) = refl
       run (answered m) = refl
 
@@ -87,12 +99,14 @@ module _ (v : Cell) (c : Circuit) (cell : check_circuit (circuit_of v) ≡ answe
   -- a question
   ask_went : (h : Held Run) (n p number value change : ℕ) → asked_by_value v h n p number value change
       → Asked (ask_call (answered c) h.table (run_in (answered c) h.run) n p) number value change
-  ask_went h n p number value change (reply, e, done) =
+  ask_went h n p number value change (result, e, value_is, change_is, done) =
       let a : Answer Wire = ask_call (check_circuit (circuit_of v)) h.table (run_in (check_circuit (circuit_of v)) h.run) n p in
       let same : a ≡ ask_call (answered c) h.table (run_in (answered c) h.run) n p = ap (λ (x : Answer Circuit). ask_call x h.table (run_in x h.run) n p) cell in
       record {
-        number_is = number_of a reply number e done.reply_is ∙ ap {B = ℕ} answer_number same;
-        told = λ wire q. (done.value_is ∙ ap (value_after 0) (same ∙ q), done.change_is ∙ ap (change_after 0) (same ∙ q));
+        number_is = result_number_of wire_given a result number e done.result_is ∙ ap {B = ℕ} answer_number same;
+        told = λ wire q.
+            let is : result ≡ result_of wire_given (answered wire) = done.result_is ∙ ap (result_of wire_given) (same ∙ q) in
+            (value_is ∙ ap (λ (x : Result given.Wire Refusal). after_reply 0 x (λ (w : given.Wire). w.value)) is, change_is ∙ ap (λ (x : Result given.Wire Refusal). after_reply 0 x (λ (w : given.Wire). w.change)) is);
       }
 
 -- a cell that was checked is the one that was given, and legal

@@ -1,7 +1,7 @@
 -- A run laid out in the record's column comes back from it, and a column of the right length from the record in it.
-use mathlib.Core.Path.{◌≡◌, refl, ◌∙◌, ap}
+use mathlib.Core.Path.{◌≡◌, ◌∙◌, ap}
 use mathlib.Core.List.{List, [], ◌∷◌, ◌++◌}
-use Prim.Native.Nat.{ℕ, suc, ◌≤◌}
+use Prim.Native.Nat.{ℕ, ◌≤◌}
 use native.Mathlib.Omega.{arith}
 use lib.ListN.{length, take, drop, length-drop, take-append-drop}
 use lib.Seq.{take_all}
@@ -9,7 +9,6 @@ use Rattle.refusal.specs.Answer.{answered}
 use Rattle.format.specs.Circuit.{Circuit}
 use Rattle.format.specs.Legal.{most_nodes}
 use Rattle.rules.specs.Run as defined
-use Rattle.record.specs.declared.Run.{Run}
 use Rattle.record.specs.Record.{record_of}
 use Rattle.record.proofs.Record.{run_of_record, record_long}
 use Rattle.advance.specs.Task.{run_in}

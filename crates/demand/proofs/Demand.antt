@@ -1,7 +1,5 @@
 -- The demands on runs, proved for the calls from C and the calls by value.
-use mathlib.Core.Path.{◌≡◌, ◌∙◌, ap}
-use Rattle.refusal.specs.Answer.{answered}
-use Rattle.format.specs.Circuit.{Circuit}
+use mathlib.Core.Path.{◌∙◌, ap}
 use Rattle.format.specs.Legal.{check_circuit}
 use Rattle.format.specs.Fixing.{fixed}
 use Rattle.format.proofs.Fixing.{fixed_legal}

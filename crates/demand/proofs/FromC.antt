@@ -1,6 +1,6 @@
 -- The calls from C keep the laws of an interface.
 use mathlib.Core.Path.{◌≡◌, refl, sym, ◌∙◌, ap, subst}
-use mathlib.Core.Bool.{Bool, true}
+use mathlib.Core.Bool.{Bool}
 use mathlib.Core.List.{List, [], ◌∷◌}
 use Prim.Native.Nat.{ℕ}
 use native.Mathlib.Omega.{arith}
@@ -17,7 +17,7 @@ use Rattle.format.proofs.Read.{read_checked}
 use Rattle.diagram.specs.Call.{Columns}
 use Rattle.rules.specs.Run as defined
 use Rattle.rules.specs.Run.{Moment}
-use Rattle.rules.specs.Call.{start_call, Wire, ask_call}
+use Rattle.rules.specs.Call.{Wire, ask_call}
 use Rattle.record.specs.Record.{record_of}
 use Rattle.advance.specs.declared.Task.{Task}
 use Rattle.advance.specs.declared.Task.TheVariants.{Start, Step, Until}
@@ -27,7 +27,7 @@ use Rattle.editor.specs.Runs.{record_length, record_in, record_column, task_answ
 use Rattle.editor.proofs.Column.{column_length}
 use Rattle.commute.specs.Interface.{Held}
 use Rattle.commute.specs.Lists.{Call, step, in_place, up_to, Made}
-use Rattle.commute.proofs.Lawful.{answer_of, left, Went, Asked, Long, Lawful}
+use Rattle.commute.proofs.Lawful.{answer_of, left, Went, Asked, Lawful}
 use Rattle.commute.proofs.Keeps.{number_answered}
 use Rattle.demand.specs.FromC.{on_column, on_struct, asked, from_c}
 use Rattle.demand.proofs.Column.{column_run, column_back}

@@ -1,10 +1,9 @@
 -- The calls from C, each by the proposition that its contract states: sts_fresh, sts_start, sts_step, sts_advance, sts_run, sts_ask. The
 -- cell is a file, the run record a column of 50 numbers.
 use Rattle.std.specs.Prelude.{ℕ, ◌≡◌, List, [], ◌∷◌, length}
-use Rattle.refusal.specs.Answer.{Answer, answered}
+use Rattle.refusal.specs.Answer.{answered}
 use Rattle.format.specs.File.{read_cell}
 use Rattle.diagram.specs.Call.{fresh_call}
-use Rattle.rules.specs.Run.{Moment}
 use Rattle.record.specs.declared.Run.{Run}
 use Rattle.advance.specs.declared.Task.{Task}
 use Rattle.advance.specs.declared.Task.TheVariants.{Start, Step, Until}

@@ -1,12 +1,11 @@
 -- Loops that go through the roots: one that fills a list place by place, and one that finds the least letter.
-use mathlib.Core.Path.{◌≡◌, refl, sym, ◌∙◌, ap}
+use mathlib.Core.Path.{◌≡◌, sym}
 use mathlib.Core.Logic.{⊎_elim}
 use mathlib.Core.List.{List}
 use Prim.Native.Nat.{ℕ, ◌+◌, ◌<◌, ◌≤◌, min}
 use native.Mathlib.Omega.{arith}
-use lib.ListN.{length, get_or, set, length-set}
-use lib.Seq.{get_or-set_same, get_or-set_other}
-use Rattle.lists.proofs.Cases.{lt_or_ge, eq_or_ne}
+use lib.ListN.{length, get_or}
+use Rattle.lists.proofs.Cases.{lt_or_ge}
 use Rattle.diagram.specs.Table.{terminal_letter}
 
 -- the places before j are filled
@@ -14,27 +13,10 @@ pub record FilledTo (F : ℕ → ℕ) (size j : ℕ) (out : List ℕ) : Type 0 w
   pub long : length out ≡ size
   pub is : (i : ℕ) → i < j → get_or out i 0 ≡ F i
 
-pub filled_none : (F : ℕ → ℕ) (size : ℕ) (out : List ℕ) → length out ≡ size → FilledTo F size 0 out
-filled_none F size out e = record { long = e; is = λ i h. absurd (omega arith) }
-
--- one more place
-pub filled_next : (F : ℕ → ℕ) (size j : ℕ) (out : List ℕ) (v : ℕ) → FilledTo F size j out → j < size → v ≡ F j → FilledTo F size (j + 1) (set out j v)
-filled_next F size j out v h small e = record {
-  long = length-set out j v ∙ h.long;
-  is = λ i l.
-      ⊎_elim
-      (λ (q : i ≡ j). ap (λ (k : ℕ). get_or (set out j v) k 0) q ∙ get_or-set_same out j v 0 (omega (arith, h.long)) ∙ e ∙ ap F (sym q))
-      (λ (q : i ≡ j → ⊥). get_or-set_other out j i v 0 q ∙ h.is i (omega arith))
-      (eq_or_ne i j);
-}
-
 -- m is the least letter before place j
 pub record LeastTo (letter roots : List ℕ) (j m : ℕ) : Type 0 where
   pub least : (i : ℕ) → i < j → m ≤ get_or letter (get_or roots i 0) 0
   pub taken : (m ≡ terminal_letter → ⊥) → (i : ℕ) × (i < j) × (get_or letter (get_or roots i 0) 0 ≡ m)
-
-pub least_none : (letter roots : List ℕ) → LeastTo letter roots 0 terminal_letter
-least_none letter roots = record { least = λ i h. absurd (omega arith); taken = λ n. absurd (n refl) }
 
 -- one more root
 pub least_next : (letter roots : List ℕ) (j m x : ℕ) → LeastTo letter roots j m → x ≡ get_or letter (get_or roots j 0) 0 → LeastTo letter roots (j + 1) (min m x)

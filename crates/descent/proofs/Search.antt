@@ -1,6 +1,6 @@
 -- The search for a piece: what is found stays found, and there is always room for a node that is not.
 use mathlib.Core.Path.{◌≡◌, refl, sym, ◌∙◌, ap, subst}
-use mathlib.Core.Logic.{◌⊎◌, inl, inr, ⊎_elim}
+use mathlib.Core.Logic.{inl, inr, ⊎_elim}
 use mathlib.Core.List.{List}
 use mathlib.Core.Bool.{Bool, true, false, not, cond}
 use Prim.Native.Nat.{ℕ, zero, suc, ◌+◌, ◌<◌, ◌≤◌}
@@ -8,7 +8,6 @@ use native.Mathlib.Omega.{arith}
 use lib.ListN.{get_or, set, replicate, length-set, get_or-replicate, get_or-eq_default}
 use lib.Seq.{get_or-set_same, get_or-set_other}
 use lib.Dec.{eqb}
-use borrow.Author.Tests.{eq-eqb}
 use Rattle.lists.specs.Tests.{count_below}
 use Rattle.lists.proofs.Cases.{bool_cases, lt_or_ge, eq_or_ne, true_false}
 use Rattle.lists.proofs.Count.{count_ext, count_le, count_none}
@@ -219,10 +218,6 @@ module _ {net marks list : List ℕ} {count : ℕ} (cell : Net net) (h : Found n
           (λ (e : is_in marks y ≡ false).
           rw e (each h y far_marked d far_small e (λ (m : ℕ). Joined (parts (net_circuit net) roots) n m) (joined_trans (parts (net_circuit net) roots) n x y (w x few.2) beside) w))
           (bool_cases (is_in marks y))
-
--- a transistor that is off is crossed
-pub crossed_off : (net roots marks : List ℕ) (x i : ℕ) → get_or roots (26 + i) 0 ≡ 0 → Crossed net roots marks x i
-crossed_off net roots marks x i e on = true_false (is_off roots i) (eq-eqb (get_or roots (26 + i) 0) 0 e) on
 
 -- a search goes on from another
 pub searched_trans : {net m₁ l₁ m₂ l₂ m₃ l₃ : List ℕ} {c₁ c₂ c₃ : ℕ} → Searched net m₁ l₁ c₁ m₂ l₂ c₂ → Searched net m₂ l₂ c₂ m₃ l₃ c₃ → Searched net m₁ l₁ c₁ m₃ l₃ c₃

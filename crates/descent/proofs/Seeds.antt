@@ -1,14 +1,14 @@
 -- The search for a seed among the listed roots, and among the nodes of a piece.
 use mathlib.Core.Path.{◌≡◌, sym, ◌∙◌, ap}
-use mathlib.Core.Logic.{◌⊎◌, inl, inr, ⊎_elim}
+use mathlib.Core.Logic.{⊎_elim}
 use mathlib.Core.List.{List}
 use mathlib.Core.Bool.{true, false, not, ◌&&◌}
 use Prim.Native.Nat.{ℕ, ◌+◌, ◌-◌, ◌<◌, ◌≤◌}
 use native.Mathlib.Omega.{arith}
 use lib.ListN.{get_or}
 use lib.Dec.{eqb, ltb, leb}
-use borrow.Author.Tests.{eqb-true, eq-eqb, not-true, not-false, leb-true, ltb-true, lt-ltb, le-leb}
-use Rattle.lists.proofs.Cases.{bool_cases, lt_or_ge, and_left, and_right, and_both, true_false}
+use borrow.Author.Tests.{eq-eqb, not-true, leb-true, ltb-true}
+use Rattle.lists.proofs.Cases.{bool_cases, and_left, and_right, and_both, true_false}
 use Rattle.net.specs.Net.{net_circuit}
 use Rattle.net.specs.Roots.{seeds_place, pending_place}
 use Rattle.net.proofs.Laying.{nodes_length}
@@ -16,7 +16,6 @@ use Rattle.rules.proofs.Label.{joined_refl}
 use Rattle.plain.proofs.Cell.{inner_least}
 use Rattle.descent.specs.Settle.{is_seeded, parts, is_reached}
 use Rattle.descent.specs.Piece.{is_in, Piece}
-use Rattle.descent.specs.Live.{Listed, Live}
 use Rattle.descent.specs.Descend.{Inner, NoSeed}
 use Rattle.descent.proofs.Reaching.{reached_seed, seed_reached}
 use Rattle.descent.proofs.Narrow.{piece_whole}
@@ -24,23 +23,6 @@ use Rattle.descent.proofs.Narrow.{piece_whole}
 -- none of the listed places from i on has the root of a seed that is not entry 0
 abbrev pub NoneFrom : List ℕ → List ℕ → ℕ → ℕ → Type 0
 NoneFrom roots live count i = (j : ℕ) → i ≤ j → j < count → seeds_place ≤ get_or live j 0 → get_or live j 0 < pending_place → get_or roots (get_or live j 0) 0 ≡ 0
-
--- one place more
-pub none_next : (roots live : List ℕ) (count i : ℕ) → NoneFrom roots live count i → 0 < i
-    → (leb seeds_place (get_or live (i - 1) 0) && ltb (get_or live (i - 1) 0) pending_place) && not (eqb (get_or roots (get_or live (i - 1) 0) 0) 0) ≡ false → NoneFrom roots live count (i - 1)
-none_next roots live count i none pos e j l m a b =
-    ⊎_elim
-    (λ (g : i ≤ j). none j g m a b)
-    (λ (g : j < i).
-    let q : j ≡ i - 1 = omega arith in
-    let at : seeds_place ≤ get_or live (i - 1) 0 = omega (arith, ap (λ (k : ℕ). get_or live k 0) q) in
-    let below : get_or live (i - 1) 0 < pending_place = omega (arith, ap (λ (k : ℕ). get_or live k 0) q) in
-    ap (λ (k : ℕ). get_or roots (get_or live k 0) 0) q ∙ eqb-true (get_or roots (get_or live (i - 1) 0) 0) 0 (not-false _ (rw (le-leb seeds_place (get_or live (i - 1) 0) at, lt-ltb (get_or live (i - 1) 0) pending_place below) at e)))
-    (⊎_swap (lt_or_ge j i))
-  where
-    ⊎_swap : {A B : Type 0} → A ⊎ B → B ⊎ A
-    ⊎_swap (inl a) = inr a
-    ⊎_swap (inr b) = inl b
 
 -- a place that passes is a seed's
 pub seed_found : (roots : List ℕ) (a : ℕ) → (leb seeds_place a && ltb a pending_place) && not (eqb (get_or roots a 0) 0) ≡ true → NoSeed roots → ⊥
@@ -52,25 +34,9 @@ seed_found roots a e none =
     let zero : get_or roots a 0 ≡ 0 = ap (λ (j : ℕ). get_or roots j 0) (sym place) ∙ none (a - seeds_place) (omega arith) in
     true_false (eqb (get_or roots a 0) 0) (eq-eqb (get_or roots a 0) 0 zero) (not-true (eqb (get_or roots a 0) 0) (and_right (leb seeds_place a && ltb a pending_place) _ e))
 
--- so there is none at all
-pub none_all : {roots live : List ℕ} {count : ℕ} → Live roots live count → NoneFrom roots live count 0 → NoSeed roots
-none_all {roots} {live} {count} l none m h =
-    ⊎_elim
-    (λ (e : get_or roots (seeds_place + m) 0 ≡ 0). e)
-    (λ (at : Listed live count (seeds_place + m)).
-    ap (λ (j : ℕ). get_or roots j 0) (sym at.2) ∙ none at.0 (omega arith) at.1 (omega (arith, at.2)) (omega (arith, at.2)))
-    (l.listed (seeds_place + m) (omega arith))
-
 -- none of the nodes before m is a seed of the piece
 abbrev pub NoneTo : List ℕ → List ℕ → ℕ → Type 0
 NoneTo numbers marks m = (j : ℕ) → 2 ≤ j → j < m → is_in marks j && is_seeded numbers j ≡ false
-
-pub none_more : (numbers marks : List ℕ) (m : ℕ) → NoneTo numbers marks m → is_in marks m && is_seeded numbers m ≡ false → NoneTo numbers marks (m + 1)
-none_more numbers marks m none e j l h =
-    ⊎_elim
-    (λ (g : j < m). none j l g)
-    (λ (g : m ≤ j). let q : j ≡ m = omega arith in rw q e)
-    (lt_or_ge j m)
 
 module _ {net numbers marks : List ℕ} {n : ℕ} (inner : Inner net n) where
   module _ (piece : Piece net numbers n marks) where

@@ -1,5 +1,5 @@
 // Roots and their letters: the least letter, the parts at a letter, and the numbers of terminals.
-ghost use Rattle.std.specs.Prelude.{◌≡◌, cond, ◌<◌, min, length, get_or, eqb};
+ghost use Rattle.std.specs.Prelude.{◌≡◌, cond, ◌<◌, length, get_or, eqb};
 ghost use Rattle.descent.specs.Descend.{Entries, Least, HalfOf, NumbersOf};
 
 use functions::numbers::TERMINAL;
@@ -13,22 +13,14 @@ pub fn entry_of(column: &[u32], e: u32) -> u32
     column[e as usize]
 }
 
-pub fn least(x: u32, y: u32) -> u32
-    ensures { result ≡ min x y }
-{
-    if x < y { x } else { y }
-}
-
 // The least letter of the roots; a terminal's where all are terminals.
 pub fn least_letter(letter: &[u32], roots: &[u32; ROOTS]) -> u32
     requires { Entries letter.now roots.now }
     ensures { Least letter.now roots.now result }
 {
     let mut m = TERMINAL;
-    let mut j: usize = 0;
-    while j < ROOTS {
-        m = least(m, entry_of(letter, roots[j]));
-        j += 1;
+    for root in roots {
+        m = m.min(entry_of(letter, *root));
     }
     m
 }
@@ -51,10 +43,8 @@ pub fn halves(letter: &[u32], side: &[u32], roots: &[u32; ROOTS], m: u32) -> [u3
     ensures { HalfOf letter.now side.now roots.now m result }
 {
     let mut out: [u32; ROOTS] = [0; ROOTS];
-    let mut j: usize = 0;
-    while j < ROOTS {
-        out[j] = part(letter, side, m, roots[j]);
-        j += 1;
+    for (j, root) in roots.iter().enumerate() {
+        out[j] = part(letter, side, m, *root);
     }
     out
 }
@@ -65,10 +55,8 @@ pub fn leaf_numbers(low: &[u32], roots: &[u32; ROOTS]) -> [u32; ROOTS]
     ensures { NumbersOf low.now roots.now result }
 {
     let mut out: [u32; ROOTS] = [0; ROOTS];
-    let mut j: usize = 0;
-    while j < ROOTS {
-        out[j] = entry_of(low, roots[j]);
-        j += 1;
+    for (j, root) in roots.iter().enumerate() {
+        out[j] = entry_of(low, *root);
     }
     out
 }

@@ -9,7 +9,7 @@ ghost use Rattle.descent.specs.Live.{Live};
 ghost use Rattle.descent.specs.Descend.{Inner, Entries, Least, HalfOf, NumbersOf, NoSeed};
 
 use crate::PLACES;
-use crate::letters::{entry_of, least, part};
+use crate::letters::{entry_of, part};
 use crate::mask::matters;
 use crate::piece::piece;
 use functions::numbers::TERMINAL;
@@ -20,11 +20,8 @@ pub fn all_places() -> [u32; ROOTS]
     ensures { (length result ≡ roots_length) × ((i : ℕ) → i < roots_length → get_or result i 0 ≡ i) }
 {
     let mut out: [u32; ROOTS] = [0; ROOTS];
-    let mut i: u32 = 0;
-    while i < PLACES {
-        let at = i as usize;
-        out[at] = i;
-        i += 1;
+    for place in 0..PLACES {
+        out[place as usize] = place;
     }
     out
 }
@@ -74,15 +71,11 @@ fn keep(
     ensures live_2 { Live out.new list.new result }
 {
     let mut total: u32 = 0;
-    let mut i: u32 = 0;
-    while i < count {
-        let k = i as usize;
-        let j = live[k];
-        let at = j as usize;
-        let root = kept_root(net, marks, sole, j, roots[at]);
+    for place in &live[..count as usize] {
+        let at = *place as usize;
+        let root = kept_root(net, marks, sole, *place, roots[at]);
         out[at] = root;
-        total = note_place(list, total, j, root);
-        i += 1;
+        total = note_place(list, total, *place, root);
     }
     total
 }
@@ -91,38 +84,9 @@ fn keep(
 fn some_zero(roots: &[u32; ROOTS], live: &[u32; ROOTS], count: u32) -> bool
     requires { Live roots.now live.now count }
 {
-    let mut i: u32 = 0;
-    while i < count {
-        let k = i as usize;
-        let at = live[k] as usize;
-        if roots[at] == 0 {
-            return true;
-        }
-        i += 1;
-    }
-    false
-}
-
-// The same roots and the same list.
-fn copy(
-    roots: &[u32; ROOTS],
-    live: &[u32; ROOTS],
-    count: u32,
-    out: &mut [u32; ROOTS],
-    list: &mut [u32; ROOTS],
-)
-    requires { Live roots.now live.now count × Live out.old live.now count × (length list.old ≡ roots_length) }
-    ensures { (out.new ≡ roots.now) × Live out.new list.new count }
-{
-    let mut i: u32 = 0;
-    while i < count {
-        let k = i as usize;
-        let j = live[k];
-        let at = j as usize;
-        out[at] = roots[at];
-        list[k] = j;
-        i += 1;
-    }
+    live[..count as usize]
+        .iter()
+        .any(|place| roots[*place as usize] == 0)
 }
 
 // Node n, where it is a seed at every pattern: no other seed matters to it then. Else 0.
@@ -134,6 +98,25 @@ fn sole_seed(roots: &[u32; ROOTS], n: u32) -> u32
         return n;
     }
     0
+}
+
+// The same roots and the same list, at the listed places alone.
+fn copy(
+    roots: &[u32; ROOTS],
+    live: &[u32; ROOTS],
+    count: u32,
+    out: &mut [u32; ROOTS],
+    list: &mut [u32; ROOTS],
+)
+    requires { Live roots.now live.now count × Live out.old live.now count × (length list.old ≡ roots_length) }
+    ensures { (out.new ≡ roots.now) × Live out.new list.new count }
+{
+    let listed = count as usize;
+    for place in &live[..listed] {
+        let at = *place as usize;
+        out[at] = roots[at];
+    }
+    list[..listed].copy_from_slice(&live[..listed]);
 }
 
 // The roots that matter to node n, and the list of their places. Gives their count. Where none has become entry 0 since they were listed,
@@ -166,10 +149,7 @@ pub fn some_seed(roots: &[u32; ROOTS], live: &[u32; ROOTS], count: u32) -> bool
     requires { Live roots.now live.now count }
     ensures { (result ≡ false → NoSeed roots.now) × (result ≡ true → NoSeed roots.now → ⊥) }
 {
-    let mut i = count;
-    while i > 0 {
-        i -= 1;
-        let k = i as usize;
+    for k in (0..count as usize).rev() {
         let at = live[k] as usize;
         if (at >= SEEDS) & (at < PENDING) & (roots[at] != 0) {
             return true;
@@ -185,12 +165,8 @@ pub fn least_live(letter: &[u32], roots: &[u32; ROOTS], live: &[u32; ROOTS], cou
     ensures { Least letter.now roots.now result }
 {
     let mut m = TERMINAL;
-    let mut i: u32 = 0;
-    while i < count {
-        let k = i as usize;
-        let at = live[k] as usize;
-        m = least(m, entry_of(letter, roots[at]));
-        i += 1;
+    for place in &live[..count as usize] {
+        m = m.min(entry_of(letter, roots[*place as usize]));
     }
     m
 }
@@ -209,12 +185,9 @@ pub fn halve(
     requires live { Live roots.now live.now count × Live out.old live.now count }
     ensures { HalfOf letter.now side.now roots.now m out.new }
 {
-    let mut i: u32 = 0;
-    while i < count {
-        let k = i as usize;
-        let at = live[k] as usize;
+    for place in &live[..count as usize] {
+        let at = *place as usize;
         out[at] = part(letter, side, m, roots[at]);
-        i += 1;
     }
 }
 
@@ -230,12 +203,9 @@ pub fn live_numbers(
     ensures { NumbersOf low.now roots.now result }
 {
     let mut out: [u32; ROOTS] = [0; ROOTS];
-    let mut i: u32 = 0;
-    while i < count {
-        let k = i as usize;
-        let at = live[k] as usize;
+    for place in &live[..count as usize] {
+        let at = *place as usize;
         out[at] = entry_of(low, roots[at]);
-        i += 1;
     }
     out
 }

@@ -18,17 +18,7 @@ pub fn forget(memo: &mut [u32])
     requires { memo_length ≤ length memo.old }
     ensures { (s : ℕ) → s < slots → get_or memo.new s 0 ≡ 0 }
 {
-    let mut i: usize = 0;
-    while i < SLOTS {
-        memo[i] = 0;
-        i += 1;
-    }
-}
-
-fn wide(x: u32) -> usize
-    ensures { result ≡ x }
-{
-    x as usize
+    memo[..SLOTS].fill(0);
 }
 
 // One root more in a number for the roots, of 20 bits.
@@ -45,13 +35,8 @@ pub fn bucket(roots: &[u32; ROOTS], live: &[u32; ROOTS], count: u32) -> usize
     ensures { result < slots }
 {
     let mut h: u64 = 0;
-    let mut i: u32 = 0;
-    while i < count {
-        let at = i as usize;
-        let place = live[at];
-        let j = wide(place);
-        h = mix(h, place, roots[j]);
-        i += 1;
+    for place in &live[..count as usize] {
+        h = mix(h, *place, roots[*place as usize]);
     }
     (h * 277 / 1048576) as usize
 }
@@ -67,13 +52,7 @@ pub fn look(memo: &[u32], slot: usize, roots: &[u32; ROOTS]) -> u32
         return 0;
     }
     let from = SLOTS + ROOTS * slot;
-    let mut same = true;
-    let mut j: usize = 0;
-    while j < ROOTS {
-        same = same & (memo[from + j] == roots[j]);
-        j += 1;
-    }
-    if same {
+    if memo[from..from + ROOTS] == roots[..] {
         return word;
     }
     0
@@ -86,11 +65,7 @@ fn keep(memo: &mut [u32], slot: usize, roots: &[u32; ROOTS], e: u32)
     ensures { Remembered memo.old slot roots.now e memo.new }
 {
     let from = SLOTS + ROOTS * slot;
-    let mut i: usize = 0;
-    while i < ROOTS {
-        memo[from + i] = roots[i];
-        i += 1;
-    }
+    memo[from..from + ROOTS].copy_from_slice(roots);
     memo[slot] = e + 1;
 }
 

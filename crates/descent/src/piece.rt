@@ -78,11 +78,9 @@ fn spread(
 {
     let degree = degree_of(net, x);
     let mut total = count;
-    let mut k: u32 = 0;
-    while k < degree {
+    for k in 0..degree {
         let i = arm_at(net, x, k);
         total = cross(net, roots, marks, found, total, x, i);
-        k += 1;
     }
     total
 }
@@ -96,6 +94,7 @@ pub fn piece(net: &[u32], roots: &[u32; ROOTS], n: u32) -> [u32; 26]
     let mut found: [u32; 26] = [0; 26];
     let mut count = note(&mut marks, &mut found, 0, n);
     let mut head: u32 = 0;
+    // A `while`: what is found grows as it is gone through.
     while head < count {
         let at = head as usize;
         let x = found[at];

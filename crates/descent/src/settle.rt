@@ -14,12 +14,10 @@ fn holds_seed(net: &[u32], numbers: &[u32; ROOTS], marks: &[u32; 26], n: u32) ->
     requires { Inner net.now n × Piece net.now numbers.now n marks.now }
     ensures { result ≡ is_reached (net_circuit net.now) n numbers.now }
 {
-    let mut m: usize = 2;
-    while m < 26 {
+    for m in 2..26 {
         if (marks[m] == INSIDE) & (numbers[SEEDS + m] == 1) {
             return true;
         }
-        m += 1;
     }
     false
 }

@@ -1,63 +1,15 @@
--- The record in a column of 50 numbers: entries read from a place on, entries written from a place on, a record written and read back.
-use mathlib.Core.Path.{◌≡◌, refl, sym, ◌∙◌, ap}
-use mathlib.Core.List.{List, [], ◌∷◌, ◌++◌, append_assoc, append-nil}
-use Prim.Native.Nat.{ℕ, suc, ◌+◌, ◌-◌, ◌<◌, ◌≤◌}
-use native.Mathlib.Nat.{add-zero}
+-- The record in a column of 50 numbers: a record written and read back.
+use mathlib.Core.Path.{◌≡◌, refl, ◌∙◌, ap}
+use mathlib.Core.List.{List, [], ◌∷◌, ◌++◌, append-nil}
+use Prim.Native.Nat.{ℕ, ◌+◌, ◌≤◌}
 use native.Mathlib.Omega.{arith}
-use lib.ListN.{length, get_or, take, drop, set, replicate, length-append, length-drop, length-set, take-append-drop, drop_of_length-le}
-use lib.Seq.{take-suc, drop-cons, append_snoc, get_or-drop, set_at, take_at, drop_at, take_all, length-take-le}
-use Rattle.lists.specs.Padded.{padded}
-use Rattle.lists.proofs.Padded.{padded_none, padded_put}
+use lib.ListN.{length, get_or, take, drop, set, length-append, length-drop, length-set, drop_of_length-le}
+use lib.Seq.{take_at, drop_at, take_all}
 use Rattle.record.specs.declared.Run.{Run}
 use Rattle.record.specs.Record.{record_of}
 use Rattle.record.proofs.Record.{record_long}
 use Rattle.rules.specs.Run as defined
 use Rattle.editor.specs.Runs.{record_in, record_column}
-
--- entries read: none yet
-pub part_none : (l : List ℕ) (from : ℕ) → replicate 24 0 ≡ padded 24 0 (take 0 (drop from l))
-part_none l from = sym (padded_none 24 0)
-
-part_length : (l : List ℕ) (from i : ℕ) → i ≤ 24 → from + 24 ≤ length l → length (take i (drop from l)) ≡ i
-part_length l from i h long = length-take-le i (drop from l) (rw (length-drop from l) (omega arith))
-
--- one more
-pub part_next : (l : List ℕ) (from i : ℕ) → i < 24 → from + 24 ≤ length l
-    → set (padded 24 0 (take i (drop from l))) i (get_or l (from + i) 0) ≡ padded 24 0 (take (i + 1) (drop from l))
-part_next l from i h long =
-    let more : i + 1 ≡ suc i = omega arith in
-    let within : i < length (drop from l) = rw (length-drop from l) (omega arith) in
-    let step : take (i + 1) (drop from l) ≡ take i (drop from l) ++ (get_or l (from + i) 0 ∷ []) = rw (more, take-suc (drop from l) i 0 within, get_or-drop from l i 0) in
-    rw step (padded_put 24 i 0 (get_or l (from + i) 0) (take i (drop from l)) (part_length l from i (omega arith) long) h)
-
--- all
-pub part_all : (l : List ℕ) (from i : ℕ) → i ≡ 24 → from + 24 ≤ length l → padded 24 0 (take i (drop from l)) ≡ take 24 (drop from l)
-part_all l from i e long =
-    let full : 24 - length (take 24 (drop from l)) ≡ 0 = omega (arith, part_length l from 24 (omega arith) long) in
-    rw (e, full, append-nil)
-
--- entries written: none yet
-pub put_none : (l es : List ℕ) (from : ℕ) → l ≡ take from l ++ take 0 es ++ drop (from + 0) l
-put_none l es from = rw (add-zero, append-nil) (sym (take-append-drop from l))
-
--- one more
-pub put_next : (l es : List ℕ) (from i : ℕ) → i < 24 → length es ≡ 24 → from + 24 ≤ length l
-    → set (take from l ++ take i es ++ drop (from + i) l) (from + i) (get_or es i 0) ≡ take from l ++ take (i + 1) es ++ drop (from + (i + 1)) l
-put_next l es from i h e long =
-    let more : i + 1 ≡ suc i = omega arith in
-    let past : from + (i + 1) ≡ suc (from + i) = omega arith in
-    let seam : length (take from l ++ take i es) ≡ from + i =
-    rw (length-append, length-take-le from l (omega arith), length-take-le i es (omega arith)) in
-    let rest : drop (from + i) l ≡ get_or l (from + i) 0 ∷ drop (suc (from + i)) l = drop-cons l (from + i) 0 (omega arith) in
-    let next : take (i + 1) es ≡ take i es ++ (get_or es i 0 ∷ []) = rw (more, take-suc es i 0 (omega arith)) in
-    ap (λ (xs : List ℕ). set (take from l ++ take i es ++ xs) (from + i) (get_or es i 0)) rest
-    ∙ set_at (take from l ++ take i es) (get_or l (from + i) 0) (drop (suc (from + i)) l) (get_or es i 0) (from + i) seam
-    ∙ sym (append_snoc (take from l ++ take i es) (get_or es i 0) (drop (suc (from + i)) l))
-    ∙ rw (next, past) (ap (λ (xs : List ℕ). xs ++ drop (suc (from + i)) l) (append_assoc (take from l) (take i es) (get_or es i 0 ∷ [])))
-
--- all
-pub put_all : (l es : List ℕ) (from i : ℕ) → i ≡ 24 → length es ≡ 24 → take from l ++ take i es ++ drop (from + i) l ≡ take from l ++ es ++ drop (from + 24) l
-put_all l es from i e long = rw (e, take_all 24 es (omega arith))
 
 -- the first two numbers
 two_set : (l : List ℕ) (time used : ℕ) → length l ≡ 50 → take 2 (set (set l 0 time) 1 used) ≡ time ∷ used ∷ []

@@ -1,4 +1,5 @@
 -- What is handed over of a run, by the answers that the definitions give.
+use Rattle.std.proofs.Common.{Result}
 use mathlib.Core.Path.{◌≡◌, refl, ◌∙◌, ap}
 use mathlib.Core.List.{List, [], ◌∷◌}
 use Prim.Native.Nat.{ℕ}
@@ -6,9 +7,9 @@ use lib.ListN.{length, set}
 use native.Mathlib.Omega.{arith}
 use borrow.Author.Tests.{eq-eqb, ne_eqb}
 use Rattle.refusal.specs.declared.Refusal.TheVariants.{Buffer}
-use Rattle.refusal.specs.declared.Reply.{Reply}
-use Rattle.refusal.specs.Number.{refusal_number, reply_number}
-use Rattle.refusal.specs.Answer.{Answer, refused, answered, reply_of}
+use Rattle.refusal.specs.declared.Refusal.{Refusal}
+use Rattle.refusal.specs.Number.{refusal_number}
+use Rattle.refusal.specs.Answer.{Answer, refused, answered, result_of}
 use Rattle.format.specs.File.{read_cell}
 use Rattle.diagram.specs.Call.{Columns}
 use Rattle.rules.specs.Run.{Moment}
@@ -16,12 +17,14 @@ use Rattle.rules.specs.Call.{Wire, ask_call}
 use Rattle.record.specs.declared.Run.{Run}
 use Rattle.advance.specs.declared.Task.{Task}
 use Rattle.advance.specs.Task.{run_in, task_call}
-use Rattle.advance.specs.Went.{run_after}
+use Rattle.advance.specs.Went.{run_given}
 use Rattle.run.specs.Done.{DoneAs}
-use Rattle.run.specs.Asked.{AskedAs, value_after, change_after}
+use Rattle.run.specs.Asked.{AskedAs, wire_given}
 use Rattle.editor.specs.Runs.{record_in, task_answer, column_after, TaskDone, ask_answer, told_after, AskDone}
 use Rattle.editor.specs.Replied.{column_after_reply, told_after_reply}
-use Rattle.refusal.proofs.Answer.{reply_number_lem}
+use Rattle.editor.specs.Functions.{result_number}
+use Rattle.editor.proofs.Handed.{result_number_lem}
+use Rattle.record.specs.declared.Wire as given
 
 module _ (file : List ℕ) (task : Task) (table : Columns) (column : List ℕ) (working : Columns) where
   -- a record of another length is refused 8
@@ -35,7 +38,7 @@ module _ (file : List ℕ) (task : Task) (table : Columns) (column : List ℕ) (
   fifty r h e = rw (eq-eqb (length column) 50 h, e)
 
 -- a refusal leaves the column, an answer's record is written
-column_handed : (a : Answer Moment) (column : List ℕ) → column_after_reply column (run_after (record_in column) a) (reply_of a) ≡ column_after column a
+column_handed : (a : Answer Moment) (column : List ℕ) → column_after_reply column (result_of run_given a) ≡ column_after column a
 column_handed (refused why) column = refl
 column_handed (answered m) column = refl
 
@@ -45,13 +48,12 @@ pub task_buffer : {table : Columns} {column : List ℕ} {working : Columns} {a :
 task_buffer e n = rw e (record { number_is = n; column_is = refl; table_is = refl; working_is = refl })
 
 -- a task that was done
-pub task_done : {table table' : Columns} {column : List ℕ} {working working' : Columns} {r : Run} {a b : Answer Moment} {reply : Reply} {r' : Run} (column' : List ℕ) {number : ℕ}
-    → a ≡ b → r ≡ record_in column → DoneAs table table' working working' r b reply r'
-    → (number ≡ reply_number reply) × (column' ≡ column_after_reply column r' reply)
+pub task_done : {table table' : Columns} {column : List ℕ} {working working' : Columns} {a b : Answer Moment} {result : Result Run Refusal} (column' : List ℕ) {number : ℕ}
+    → a ≡ b → DoneAs table table' working working' b result → (number ≡ result_number result) × (column' ≡ column_after_reply column result)
     → TaskDone table table' column column' working working' a number
-task_done {column = column} {b = b} column' e q d g = rw e (record {
-  number_is = g.0 ∙ ap reply_number d.reply_is ∙ reply_number_lem b;
-  column_is = g.1 ∙ rw (d.run_is, d.reply_is, q) (column_handed b column);
+task_done {column = column} {b = b} column' e d g = rw e (record {
+  number_is = g.0 ∙ ap {B = ℕ} result_number d.result_is ∙ result_number_lem run_given b;
+  column_is = g.1 ∙ ap (column_after_reply column) d.result_is ∙ column_handed b column;
   table_is = d.table_is;
   working_is = d.working_is;
 })
@@ -73,7 +75,7 @@ module _ (file : List ℕ) (table : Columns) (column : List ℕ) (n p : ℕ) (to
   unfolding ask_answer
   ask_lengths r h h' e = rw (eq-eqb (length column) 50 h, eq-eqb (length told) 2 h', e)
 
-told_handed : (a : Answer Wire) (told : List ℕ) → told_after_reply told (value_after 0 a) (change_after 0 a) (reply_of a) ≡ told_after told a
+told_handed : (a : Answer Wire) (told : List ℕ) → told_after_reply told (result_of wire_given a) ≡ told_after told a
 told_handed (refused why) told = refl
 told_handed (answered w) told = refl
 
@@ -81,13 +83,12 @@ pub ask_buffer : {told : List ℕ} {a : Answer Wire} {number : ℕ} → a ≡ re
 ask_buffer e n = rw e (record { number_is = n; told_is = refl })
 
 -- a question that was asked
-pub ask_done : {told : List ℕ} {a b : Answer Wire} {reply : Reply} {value change : ℕ} (told' : List ℕ) {number : ℕ}
-    → a ≡ b → AskedAs b reply value change
-    → (number ≡ reply_number reply) × (told' ≡ told_after_reply told value change reply)
+pub ask_done : {told : List ℕ} {a b : Answer Wire} {result : Result given.Wire Refusal} (told' : List ℕ) {number : ℕ}
+    → a ≡ b → AskedAs b result → (number ≡ result_number result) × (told' ≡ told_after_reply told result)
     → AskDone told told' a number
 ask_done {told = told} {b = b} told' e s g = rw e (record {
-  number_is = g.0 ∙ ap reply_number s.reply_is ∙ reply_number_lem b;
-  told_is = g.1 ∙ rw (s.value_is, s.change_is, s.reply_is) (told_handed b told);
+  number_is = g.0 ∙ ap {B = ℕ} result_number s.result_is ∙ result_number_lem wire_given b;
+  told_is = g.1 ∙ ap (told_after_reply told) s.result_is ∙ told_handed b told;
 })
 
 -- two numbers written over two

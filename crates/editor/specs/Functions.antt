@@ -1,8 +1,7 @@
 -- The calls on a table of functions: what the editor is given, by the answers of crate diagram's definitions (its specs/Call.antt).
-use Rattle.std.specs.Prelude.{◌≡◌, ℕ}
-use Rattle.refusal.specs.declared.Reply.{Reply}
-use Rattle.refusal.specs.declared.Reply.TheVariants.{Done, Refused}
-use Rattle.refusal.specs.Number.{reply_number}
+use Rattle.std.specs.Prelude.{◌≡◌, ℕ, Result, Ok, Err}
+use Rattle.refusal.specs.declared.Refusal.{Refusal}
+use Rattle.refusal.specs.Number.{refusal_number}
 use Rattle.refusal.specs.Answer.{Answer, answer_number}
 use Rattle.diagram.specs.Store.{Stored}
 use Rattle.diagram.specs.Call.{Columns, columns_after, used_after, entry_after, number_after}
@@ -24,7 +23,12 @@ pub record ToldCall (told told' : ℕ) (answer : Answer ℕ) (number : ℕ) : Ty
   pub number_is : number ≡ answer_number answer
   pub told_is : told' ≡ number_after told answer
 
--- what is handed over with a reply: the new number with an answer, the old one with a refusal
-abbrev pub after_reply : ℕ → ℕ → Reply → ℕ
-after_reply old new Done = new
-after_reply old new (Refused why) = old
+-- the number of a result: 0 is no refusal
+abbrev pub result_number : {A : Type 0} → Result A Refusal → ℕ
+result_number (Ok a) = 0
+result_number (Err why) = refusal_number why
+
+-- what is handed over with a result: what is taken from its value, the old one with a refusal
+abbrev pub after_reply : {A B : Type 0} → B → Result A Refusal → (A → B) → B
+after_reply old (Ok a) new = new a
+after_reply old (Err why) new = old

@@ -1,4 +1,4 @@
-// One step on a run record that the caller holds as a struct: the record is copied out, stepped by value, and stored back.
+// One step on a run record that the caller holds as a struct: the record is stepped by value, and stored back.
 ghost use Rattle.std.specs.Prelude.{◌≡◌};
 ghost use Rattle.format.specs.File.{read_cell};
 ghost use Rattle.diagram.specs.Call.{columns};
@@ -8,45 +8,7 @@ ghost use Rattle.editor.specs.Runs.{AdvanceDone};
 
 use advance::Task;
 use record::Run;
-use refusal::Reply;
 use run::go::on_file;
-
-// The number of a step, and the record to store back: with a refusal the one that was given.
-#[derive(Clone, Copy)]
-struct Advanced {
-    number: u32,
-    run: Run,
-}
-
-// One step on a cell file and a record by value.
-fn advance_value(
-    file: &[u8],
-    letter: &mut [u32],
-    low: &mut [u32],
-    high: &mut [u32],
-    r: Run,
-    work_letter: &mut [u32],
-    work_low: &mut [u32],
-    work_high: &mut [u32],
-) -> Advanced
-    ensures { AdvanceDone (columns letter.old low.old high.old) (columns letter.new low.new high.new) r result.run (columns work_letter.old work_low.old work_high.old) (columns work_letter.new work_low.new work_high.new) (task_call (read_cell file.now) Step (columns letter.old low.old high.old) r (columns work_letter.old work_low.old work_high.old)) result.number }
-{
-    let went = on_file(
-        file,
-        Task::Step,
-        letter,
-        low,
-        high,
-        r,
-        work_letter,
-        work_low,
-        work_high,
-    );
-    let reply = went.reply;
-    let run = went.run;
-    let number = refusal::reply_number(reply);
-    Advanced { number, run }
-}
 
 // One step on the record behind `run`, which changes with an answer alone.
 pub fn sts_advance(
@@ -61,11 +23,22 @@ pub fn sts_advance(
 ) -> u32
     ensures { AdvanceDone (columns letter.old low.old high.old) (columns letter.new low.new high.new) run.old run.new (columns work_letter.old work_low.old work_high.old) (columns work_letter.new work_low.new work_high.new) (task_call (read_cell file.now) Step (columns letter.old low.old high.old) run.old (columns work_letter.old work_low.old work_high.old)) result }
 {
-    let r = *run;
-    let done = advance_value(file, letter, low, high, r, work_letter, work_low, work_high);
-    let number = done.number;
-    if number == 0 {
-        *run = done.run;
+    let went = on_file(
+        file,
+        Task::Step,
+        letter,
+        low,
+        high,
+        *run,
+        work_letter,
+        work_low,
+        work_high,
+    );
+    match went {
+        Ok(after) => {
+            *run = after;
+            0
+        }
+        Err(why) => u32::from(why),
     }
-    number
 }

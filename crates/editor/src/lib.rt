@@ -14,7 +14,7 @@ ghost use Rattle.editor.specs.Read.{read_call, header_after};
 
 use cell::Cell;
 use format::Header;
-use refusal::{Refusal, Reply};
+use refusal::Refusal;
 
 // The numbers N, M, E, K and H.
 fn write_header(header: &mut [u32], h: Header)
@@ -34,16 +34,13 @@ pub fn sts_read(file: &[u8], header: &mut [u32]) -> u32
     ensures header_after { header.new ≡ header_after header.old (read_call file.now header.old) }
 {
     if header.len() != 5 {
-        return refusal::refusal_number(Refusal::Buffer);
+        return u32::from(Refusal::Buffer);
     }
-    let reading = Cell::read(file);
-    let reply = reading.reply;
-    match reply {
-        Reply::Done => {
-            let cell = reading.cell;
+    match Cell::read(file) {
+        Ok(cell) => {
             write_header(header, cell.header);
             0
         }
-        Reply::Refused(why) => refusal::refusal_number(why),
+        Err(why) => u32::from(why),
     }
 }

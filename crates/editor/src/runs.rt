@@ -1,15 +1,15 @@
 // The calls on a run: start, step, run up to a picosecond, run question.
 ghost use Rattle.std.specs.Prelude.{◌≡◌, ◌++◌, ◌+◌, ◌≤◌, length, take, drop};
-ghost use Rattle.refusal.specs.Number.{reply_number};
 ghost use Rattle.diagram.specs.Call.{columns};
 ghost use Rattle.advance.specs.declared.Task.TheVariants.{Start, Step, Until};
 ghost use Rattle.editor.specs.Runs.{record_in, record_column, task_answer, TaskDone, ask_answer, AskDone};
+ghost use Rattle.editor.specs.Functions.{result_number};
 ghost use Rattle.editor.specs.Replied.{column_after_reply, told_after_reply};
 
-use advance::{Task, Went};
-use record::Run;
-use refusal::{Refusal, Reply};
-use run::ask::{Asked, ask_file};
+use advance::Task;
+use record::{Run, Wire};
+use refusal::Refusal;
+use run::ask::ask_file;
 use run::go::on_file;
 
 // How many numbers a record has, and the answer of a question.
@@ -23,11 +23,7 @@ fn entries(record: &[u32], from: usize) -> [u32; 24]
     ensures { result ≡ take 24 (drop from «record».now) }
 {
     let mut out = [0u32; 24];
-    let mut i = 0;
-    while i < 24 {
-        out[i] = record[from + i];
-        i += 1;
-    }
+    out.copy_from_slice(&record[from..from + 24]);
     out
 }
 
@@ -51,11 +47,7 @@ fn write_entries(record: &mut [u32], from: usize, entries: [u32; 24])
     requires { from + 24 ≤ length «record».old }
     ensures { «record».new ≡ take from «record».old ++ entries ++ drop (from + 24) «record».old }
 {
-    let mut i = 0;
-    while i < 24 {
-        record[from + i] = entries[i];
-        i += 1;
-    }
+    record[from..from + 24].copy_from_slice(&entries);
 }
 
 // The column of a record.
@@ -72,18 +64,16 @@ fn write_record(record: &mut [u32], r: Run)
 }
 
 // Hands an answer's record to the caller; a refusal leaves it as it was.
-fn give_run(went: Went, record: &mut [u32]) -> u32
+fn give_run(went: Result<Run, Refusal>, record: &mut [u32]) -> u32
     requires { length «record».old ≡ 50 }
-    ensures { (result ≡ reply_number went.reply) × («record».new ≡ column_after_reply «record».old went.run went.reply) }
+    ensures { (result ≡ result_number went) × («record».new ≡ column_after_reply «record».old went) }
 {
-    let reply = went.reply;
-    match reply {
-        Reply::Done => {
-            let run = went.run;
+    match went {
+        Ok(run) => {
             write_record(record, run);
             0
         }
-        Reply::Refused(why) => refusal::refusal_number(why),
+        Err(why) => u32::from(why),
     }
 }
 
@@ -102,7 +92,7 @@ fn task_on(
     ensures { TaskDone (columns letter.old low.old high.old) (columns letter.new low.new high.new) «record».old «record».new (columns work_letter.old work_low.old work_high.old) (columns work_letter.new work_low.new work_high.new) (task_answer file.now task (columns letter.old low.old high.old) «record».old (columns work_letter.old work_low.old work_high.old)) result }
 {
     if record.len() != RECORD {
-        return refusal::refusal_number(Refusal::Buffer);
+        return u32::from(Refusal::Buffer);
     }
     let r = read_record(record);
     let went = on_file(
@@ -200,18 +190,17 @@ pub fn sts_run(
 }
 
 // Hands a question's answer to the caller; a refusal leaves it as it was.
-fn give_told(a: Asked, answer: &mut [u32]) -> u32
+fn give_told(a: Result<Wire, Refusal>, answer: &mut [u32]) -> u32
     requires { length answer.old ≡ 2 }
-    ensures { (result ≡ reply_number a.reply) × (answer.new ≡ told_after_reply answer.old a.value a.change a.reply) }
+    ensures { (result ≡ result_number a) × (answer.new ≡ told_after_reply answer.old a) }
 {
-    let reply = a.reply;
-    match reply {
-        Reply::Done => {
-            answer[0] = a.value;
-            answer[1] = a.change;
+    match a {
+        Ok(wire) => {
+            answer[0] = wire.value;
+            answer[1] = wire.change;
             0
         }
-        Reply::Refused(why) => refusal::refusal_number(why),
+        Err(why) => u32::from(why),
     }
 }
 
@@ -229,10 +218,10 @@ pub fn sts_ask(
     ensures { AskDone answer.old answer.new (ask_answer file.now (columns letter.now low.now high.now) «record».now node pattern answer.old) result }
 {
     if record.len() != RECORD {
-        return refusal::refusal_number(Refusal::Buffer);
+        return u32::from(Refusal::Buffer);
     }
     if answer.len() != TOLD {
-        return refusal::refusal_number(Refusal::Buffer);
+        return u32::from(Refusal::Buffer);
     }
     let r = read_record(record);
     let a = ask_file(file, letter, low, high, r, node, pattern);

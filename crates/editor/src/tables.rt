@@ -1,42 +1,40 @@
 // The calls on a table of functions of the letters.
-ghost use Rattle.std.specs.Prelude.{◌≡◌};
-ghost use Rattle.refusal.specs.Number.{reply_number};
+ghost use Rattle.std.specs.Prelude.{◌≡◌, ℕ};
 ghost use Rattle.diagram.specs.declared.Operation.TheVariants.{Smaller, Sum};
 ghost use Rattle.diagram.specs.Call.{columns, fresh_call, apply_call, choose_call, fix_call, number_call, count_call};
-ghost use Rattle.editor.specs.Functions.{FreshCall, StoredCall, ToldCall, after_reply};
+ghost use Rattle.calls.specs.declared.Stored.{Stored};
+ghost use Rattle.editor.specs.Functions.{FreshCall, StoredCall, ToldCall, result_number, after_reply};
 
 use calls::store::store;
 use calls::tell::tell;
-use calls::{Ask, Make, Stored, Told};
+use calls::{Ask, Make, Stored};
 use diagram::Operation;
-use refusal::Reply;
+use refusal::Refusal;
 
 // Hands an answer's used count and entry to the caller; a refusal leaves both as they were.
-fn give_stored(s: Stored, used: &mut u32, entry: &mut u32) -> u32
-    ensures { (result ≡ reply_number s.reply) × (used.new ≡ after_reply used.old s.used s.reply) × (entry.new ≡ after_reply entry.old s.entry s.reply) }
+fn give_stored(s: Result<Stored, Refusal>, used: &mut u32, entry: &mut u32) -> u32
+    ensures { (result ≡ result_number s) × (used.new ≡ after_reply used.old s (λ (x : Stored). x.used)) × (entry.new ≡ after_reply entry.old s (λ (x : Stored). x.entry)) }
 {
-    let reply = s.reply;
-    match reply {
-        Reply::Done => {
-            *used = s.used;
-            *entry = s.entry;
+    match s {
+        Ok(stored) => {
+            *used = stored.used;
+            *entry = stored.entry;
             0
         }
-        Reply::Refused(why) => refusal::refusal_number(why),
+        Err(why) => u32::from(why),
     }
 }
 
 // Hands an answer's number to the caller; a refusal leaves it as it was.
-pub fn give_number(t: Told, number: &mut u32) -> u32
-    ensures { (result ≡ reply_number t.reply) × (number.new ≡ after_reply number.old t.number t.reply) }
+pub fn give_number(t: Result<u32, Refusal>, number: &mut u32) -> u32
+    ensures { (result ≡ result_number t) × (number.new ≡ after_reply number.old t (λ (n : ℕ). n)) }
 {
-    let reply = t.reply;
-    match reply {
-        Reply::Done => {
-            *number = t.number;
+    match t {
+        Ok(told) => {
+            *number = told;
             0
         }
-        Reply::Refused(why) => refusal::refusal_number(why),
+        Err(why) => u32::from(why),
     }
 }
 

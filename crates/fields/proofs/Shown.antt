@@ -5,13 +5,12 @@ use Prim.Native.Nat.{ℕ}
 use native.Mathlib.Omega.{arith}
 use lib.ListN.{length-append}
 use Rattle.refusal.specs.declared.Refusal.{Refusal}
-use Rattle.refusal.specs.declared.Reply.TheVariants.{Done, Refused}
+use Rattle.std.specs.Prelude.{Result, Ok, Err}
 use Rattle.format.specs.declared.Header.{Header}
 use Rattle.format.specs.Circuit.{first_node_number, no_node, no_transistor, no_entry}
 use Rattle.format.specs.Legal.{most_nodes, most_transistors, most_entries}
 use Rattle.format.specs.File.{read_cell}
 use Rattle.cell.specs.declared.Cell.{Cell}
-use Rattle.cell.specs.declared.Reading.{Reading}
 use Rattle.cell.specs.Value.{firsts, circuit_of, reading}
 use Rattle.cell.proofs.Check.{header_kept}
 use Rattle.cell.proofs.Answers.{reading_refused, reading_done}
@@ -44,11 +43,11 @@ records_shown cell w n t s =
     })
 
 -- a refused file
-pub file_refused : (file : List ℕ) (r : Reading) (why : Refusal) → r ≡ reading (read_cell file) → r.reply ≡ Refused why → shown_file file ≡ refused_line why
+pub file_refused : (file : List ℕ) (r : Result Cell Refusal) (why : Refusal) → r ≡ reading (read_cell file) → r ≡ Err why → shown_file file ≡ refused_line why
 unfolding shown_file
 file_refused file r why e p = ap shown (reading_refused file r e why p)
 
 -- a file that was read
-pub file_read : (file : List ℕ) (r : Reading) → r ≡ reading (read_cell file) → r.reply ≡ Done → shown_file file ≡ shown_cell (circuit_of r.cell)
+pub file_read : (file : List ℕ) (r : Result Cell Refusal) (cell : Cell) → r ≡ reading (read_cell file) → r ≡ Ok cell → shown_file file ≡ shown_cell (circuit_of cell)
 unfolding shown_file
-file_read file r e p = ap shown (reading_done file r e p)
+file_read file r cell e p = ap shown (reading_done file r e cell p)

@@ -1,17 +1,17 @@
 -- Laws of lines written one behind the other.
-use mathlib.Core.Path.{◌≡◌, refl, sym, ◌∙◌, ap}
+use mathlib.Core.Path.{◌≡◌, sym}
 use mathlib.Core.List.{List, [], ◌∷◌, ◌++◌, append-nil}
 use mathlib.Core.Bool.{Bool, true, false, cond}
-use Prim.Native.Nat.{ℕ, zero, suc, ◌+◌, ◌*◌, ◌^◌, ◌<◌, ◌≤◌}
+use Prim.Native.Nat.{ℕ, suc, ◌+◌, ◌*◌, ◌^◌, ◌<◌, ◌≤◌}
 use native.Mathlib.Nat.{add-zero}
 use native.Mathlib.Numerals.{add-one}
 use native.Mathlib.Omega.{arith}
 use lib.ListN.{length, take, length-append, take-append-drop}
 use Rattle.format.specs.Legal.{most_nodes}
 use Rattle.text.specs.Decimal.{decimal}
-use Rattle.text.specs.Written.{written, Wrote}
+use Rattle.text.specs.Written.{Wrote}
 use Rattle.text.proofs.Decimal.{decimal_short}
-use Rattle.text.proofs.Written.{wrote_then, wrote_room, wrote_length}
+use Rattle.text.proofs.Written.{wrote_then}
 use Rattle.fields.specs.Line.{LineWrote}
 use Rattle.lines.specs.Listing.{lines_of}
 use Rattle.lines.specs.Lines.{line_room, call_room, Put}
@@ -54,10 +54,6 @@ put_yes y t p = rw t p
 -- and where it fails
 pub put_no : {a b : List ℕ} (x : List ℕ) {y : List ℕ} {at most e : ℕ} {test : Bool} → test ≡ false → Put a b at y most e → Put a b at (cond test x y) most e
 put_no x t p = rw t p
-
--- a line of a cell or of a refusal
-pub put_line : {a b x : List ℕ} {at e : ℕ} → LineWrote a b at x e → Put a b at x call_room e
-put_line w = put_wrote call_room w.wrote (omega (arith, w.short))
 
 -- no lines yet
 pub lines_none : (out : List ℕ) (at : ℕ) (line : ℕ → List ℕ) → Put out out at (lines_of 0 line) (line_room * 0) at

@@ -1,15 +1,12 @@
 -- What the functions that write lines are handed, and what they write.
-use Rattle.std.specs.Prelude.{◌≡◌, List, [], Bool, not, ◌||◌, cond, ℕ, ◌+◌, ◌<◌, ◌≤◌, length, get_or, eqb}
+use Rattle.std.specs.Prelude.{List, [], Bool, not, ◌||◌, cond, ℕ, ◌+◌, ◌<◌, ◌≤◌, get_or, eqb, Result, Ok, Err}
 use Rattle.refusal.specs.declared.Refusal.{Refusal}
-use Rattle.refusal.specs.declared.Reply.{Reply}
-use Rattle.refusal.specs.declared.Reply.TheVariants.{Done, Refused}
-use Rattle.format.specs.declared.Header.{Header}
 use Rattle.format.specs.Circuit.{first_node_number}
 use Rattle.format.specs.Legal.{most_nodes}
 use Rattle.diagram.specs.Table.{Table}
 use Rattle.diagram.specs.Operation.{count}
-use Rattle.functions.specs.Open.{Legible}
 use Rattle.record.specs.declared.Run.{Run}
+use Rattle.functions.specs.Open.{Legible}
 use Rattle.text.specs.Written.{Wrote}
 use Rattle.lines.specs.Listing.{node_line, lines_of}
 
@@ -41,7 +38,7 @@ pub record Entries (letters nodes : ℕ) (l w h : List ℕ) (used : ℕ) (values
   pub few : nodes ≤ most_nodes
   pub within : (i : ℕ) → i < nodes → get_or values i 0 < used
 
--- by a reply
-abbrev pub by_reply : Reply → List ℕ → (Refusal → List ℕ) → List ℕ
-by_reply Done lines stop = lines
-by_reply (Refused why) lines stop = stop why
+-- by a call's result
+abbrev pub by_result : Result Run Refusal → (Run → List ℕ) → (Refusal → List ℕ) → List ℕ
+by_result (Ok r) lines stop = lines r
+by_result (Err why) lines stop = stop why

@@ -1,28 +1,25 @@
 // The lines of a start and of a step, written into a lent buffer from a place on; the listing as a whole is a definition (specs/Listing.antt).
-// Promise: the lines of a call's reply are exactly the definition's bytes, and every other byte of the buffer is as it was.
+// Promise: the lines of a call's result are exactly the definition's bytes, and every other byte of the buffer is as it was.
 // Crate listing makes the calls and prints; the columns are only read here, so that a wrong line is refused quickly.
 #![tactic(auto)]
 
-ghost use Rattle.std.specs.Prelude.{◌≡◌, true, false, ◌+◌, ◌<◌, ◌≤◌, length};
-ghost use Rattle.refusal.specs.declared.Reply.TheVariants.{Done};
+ghost use Rattle.std.specs.Prelude.{true, false, ◌+◌, ◌<◌, ◌≤◌, length, IfOk};
 ghost use Rattle.diagram.specs.Held.{held};
 ghost use Rattle.functions.specs.Open.{Legible};
+ghost use Rattle.record.specs.declared.Run.{Run};
 ghost use Rattle.fields.specs.Line.{refused_line};
 ghost use Rattle.lines.specs.Listing.{node_line, end_line, stop_line};
-ghost use Rattle.lines.specs.Lines.{line_room, call_room, Put, entry_line, node_lines, Entries, by_reply};
+ghost use Rattle.lines.specs.Lines.{line_room, call_room, Put, entry_line, node_lines, Entries, by_result};
 
 use fields::line::put_refused;
 use format::Header;
 use operations::read::count;
 use record::Run;
-use refusal::{Refusal, Reply, refusal_number};
+use refusal::Refusal;
 use text::{put_bytes, put_ended, put_spaced};
 
 // The node records are numbered from here on.
 const FIRST_NODE: u32 = 2;
-
-// The number of the refusal "finished".
-const FINISHED: u32 = 10;
 
 // A time, a node and the count of the patterns at which it is high.
 fn put_node(out: &mut [u8], at: usize, time: u32, n: u32, high: u32) -> usize
@@ -79,14 +76,12 @@ fn put_nodes(
     let k = h.letters;
     let nodes = h.nodes;
     let mut end = at;
-    let mut i: u32 = 0;
-    while i < nodes {
+    for i in 0..nodes {
         let p = i as usize;
         let e = values[p];
         let listed = all | (e != before[p]);
         let n = FIRST_NODE + i;
         end = put_entry(out, end, letter, low, high, used, k, time, listed, n, e);
-        i += 1;
     }
     end
 }
@@ -105,13 +100,13 @@ fn put_stop(out: &mut [u8], at: usize, why: Refusal, time: u32, steps: u32) -> u
     requires { at + call_room ≤ length out.old }
     ensures { Put out.old out.new at (stop_line time steps why) call_room result }
 {
-    if refusal_number(why) == FINISHED {
+    if why == Refusal::Finished {
         return put_end(out, at, time, steps);
     }
     put_refused(out, at, why)
 }
 
-// A start's reply: every node record, or the refusal.
+// What a start gave: every node record, or the refusal.
 pub fn put_started(
     out: &mut [u8],
     at: usize,
@@ -119,22 +114,18 @@ pub fn put_started(
     low: &[u32],
     high: &[u32],
     h: Header,
-    reply: Reply,
-    r: Run,
+    started: Result<Run, Refusal>,
 ) -> usize
-    requires { (reply ≡ Done → Entries h.letters h.nodes letter.now low.now high.now r.used r.values) × (at + call_room ≤ length out.old) }
-    ensures { Put out.old out.new at (by_reply reply (node_lines h.letters h.nodes (held letter.now low.now high.now r.used) r.time true r.values r.values) refused_line) call_room result }
+    requires { IfOk started (λ (r : Run). Entries h.letters h.nodes letter.now low.now high.now r.used r.values) × (at + call_room ≤ length out.old) }
+    ensures { Put out.old out.new at (by_result started (λ r. node_lines h.letters h.nodes (held letter.now low.now high.now r.used) r.time true r.values r.values) refused_line) call_room result }
 {
-    match reply {
-        Reply::Done => {
-            let values = r.values;
-            put_nodes(out, at, letter, low, high, h, r, true, values)
-        }
-        Reply::Refused(why) => put_refused(out, at, why),
+    match started {
+        Ok(r) => put_nodes(out, at, letter, low, high, h, r, true, r.values),
+        Err(why) => put_refused(out, at, why),
     }
 }
 
-// A step's reply, with the time, the entries and the steps before it: each node record whose entry is another, the end, or the refusal.
+// What a step gave, with the run and the steps before it: each node record whose entry is another, the end, or the refusal.
 pub fn put_stepped(
     out: &mut [u8],
     at: usize,
@@ -142,22 +133,15 @@ pub fn put_stepped(
     low: &[u32],
     high: &[u32],
     h: Header,
-    reply: Reply,
-    r: Run,
+    stepped: Result<Run, Refusal>,
     before: Run,
     steps: u32,
 ) -> usize
-    requires { (reply ≡ Done → Entries h.letters h.nodes letter.now low.now high.now r.used r.values) × (at + call_room ≤ length out.old) }
-    ensures { Put out.old out.new at (by_reply reply (node_lines h.letters h.nodes (held letter.now low.now high.now r.used) r.time false r.values before.values) (stop_line before.time steps)) call_room result }
+    requires { IfOk stepped (λ (r : Run). Entries h.letters h.nodes letter.now low.now high.now r.used r.values) × (at + call_room ≤ length out.old) }
+    ensures { Put out.old out.new at (by_result stepped (λ r. node_lines h.letters h.nodes (held letter.now low.now high.now r.used) r.time false r.values before.values) (stop_line before.time steps)) call_room result }
 {
-    match reply {
-        Reply::Done => {
-            let values = before.values;
-            put_nodes(out, at, letter, low, high, h, r, false, values)
-        }
-        Reply::Refused(why) => {
-            let time = before.time;
-            put_stop(out, at, why, time, steps)
-        }
+    match stepped {
+        Ok(r) => put_nodes(out, at, letter, low, high, h, r, false, before.values),
+        Err(why) => put_stop(out, at, why, before.time, steps),
     }
 }

@@ -30,7 +30,6 @@ use Rattle.rules.proofs.Admitted.{admitting, answer_admitted}
 use Rattle.rules.proofs.Readable.{given_sound, held_table, held_sound_lem, held_lengths}
 use Rattle.functions.specs.Open.{Legible}
 use Rattle.functions.proofs.Carry.{sound_legible}
-use Rattle.record.specs.declared.Run.{Run}
 use Rattle.record.specs.Record.{record_of}
 use Rattle.lines.specs.Listing.{node_line, start_lines, step_lines, lines_of}
 use Rattle.lines.specs.Lines.{node_lines, Entries}

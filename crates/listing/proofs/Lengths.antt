@@ -7,9 +7,9 @@ use native.Mathlib.Omega.{arith}
 use lib.Dec.{leb}
 use borrow.Author.Tests.{leb-true}
 use Rattle.lists.proofs.Cases.{and_right}
+use Rattle.std.specs.Prelude.{Result, Ok, Err}
 use Rattle.diagram.specs.Held.{least_entries, most_entries}
-use Rattle.text.specs.declared.Parsed.{Parsed}
-use Rattle.text.specs.declared.Parsed.TheVariants.{Number, Large, Other}
+use Rattle.text.specs.declared.ParseError.{ParseError}
 use Rattle.text.specs.Number.{parsed}
 use Rattle.listing.specs.Argument.{parsed_length, LengthAs}
 
@@ -17,10 +17,9 @@ most_by : (n : ℕ) (within : Bool) → (within ≡ true → n ≤ most_entries)
 most_by n true h = h refl
 most_by n false h = omega arith
 
-length_most : (p : Parsed) → parsed_length p ≤ most_entries
-length_most (Number n) = most_by n (leb least_entries n && leb n most_entries) (λ e. leb-true n most_entries (and_right (leb least_entries n) (leb n most_entries) e))
-length_most Large = omega arith
-length_most Other = omega arith
+length_most : (p : Result ℕ ParseError) → parsed_length p ≤ most_entries
+length_most (Ok n) = most_by n (leb least_entries n && leb n most_entries) (λ e. leb-true n most_entries (and_right (leb least_entries n) (leb n most_entries) e))
+length_most (Err why) = omega arith
 
 pub length_as : {text : List ℕ} {length : ℕ} → length ≡ parsed_length (parsed text) → LengthAs text length
 length_as {text} e = record { is = e; most = omega (arith, length_most (parsed text)) }

@@ -2,7 +2,7 @@
 use mathlib.Core.Path.{◌≡◌, refl, ◌∙◌, ap, ap₂}
 use mathlib.Core.List.{List, [], ◌++◌}
 use mathlib.Core.Bool.{true, not, cond}
-use Prim.Native.Nat.{ℕ, zero, suc, ◌+◌, ◌<◌, ◌≤◌}
+use Prim.Native.Nat.{ℕ, zero, suc, ◌<◌, ◌≤◌}
 use native.Mathlib.Omega.{arith}
 use lib.ListN.{length, get_or, length-replicate}
 use lib.Dec.{ltb, eqb}
@@ -27,7 +27,6 @@ use Rattle.rules.specs.Run.{Moment, start_answer, time_after}
 use Rattle.rules.specs.Call.{working_legal, step_call}
 use Rattle.rules.proofs.Admitted.{admitting}
 use Rattle.rules.proofs.Readable.{held_step}
-use Rattle.record.specs.declared.Run.{Run}
 use Rattle.record.specs.Record.{record_of}
 use Rattle.record.proofs.Record.{run_of_record}
 use Rattle.advance.specs.declared.Task.TheVariants.{Step}

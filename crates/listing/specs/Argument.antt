@@ -1,7 +1,6 @@
 -- The table length that a program's argument names.
-use Rattle.std.specs.Prelude.{◌≡◌, ◌&&◌, cond, List, ℕ, ◌≤◌, leb}
-use Rattle.text.specs.declared.Parsed.{Parsed}
-use Rattle.text.specs.declared.Parsed.TheVariants.{Number, Large, Other}
+use Rattle.std.specs.Prelude.{◌≡◌, ◌&&◌, cond, List, ℕ, ◌≤◌, leb, Result, Ok, Err}
+use Rattle.text.specs.declared.ParseError.{ParseError}
 use Rattle.text.specs.Number.{parsed}
 use Rattle.diagram.specs.Held.{least_entries, most_entries}
 
@@ -9,10 +8,9 @@ use Rattle.diagram.specs.Held.{least_entries, most_entries}
 abbrev pub length_of : ℕ → ℕ
 length_of n = cond (leb least_entries n && leb n most_entries) n 0
 
-abbrev pub parsed_length : Parsed → ℕ
-parsed_length (Number n) = length_of n
-parsed_length Large = 0
-parsed_length Other = 0
+abbrev pub parsed_length : Result ℕ ParseError → ℕ
+parsed_length (Ok n) = length_of n
+parsed_length (Err why) = 0
 
 -- a decimal number in the range, or 0 for any other text
 abbrev pub table_length : List ℕ → ℕ

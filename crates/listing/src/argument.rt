@@ -2,7 +2,7 @@
 ghost use Rattle.std.specs.Prelude.{◌≡◌};
 ghost use Rattle.listing.specs.Argument.{length_of, LengthAs};
 
-use text::{Parsed, parse};
+use text::parse;
 
 const LEAST: u32 = 3;
 
@@ -12,22 +12,18 @@ const MOST: u32 = 65536;
 pub fn table_length(text: &[u8]) -> usize
     ensures { LengthAs text.now result }
 {
-    let parsed = parse(text);
-    match parsed {
-        Parsed::Number(n) => in_range(n),
-        Parsed::Large => 0,
-        Parsed::Other => 0,
+    match parse(text) {
+        Ok(n) => in_range(n),
+        Err(_) => 0,
     }
 }
 
 fn in_range(n: u32) -> usize
     ensures { result ≡ length_of n }
 {
-    if n < LEAST {
-        return 0;
+    if (LEAST..=MOST).contains(&n) {
+        n as usize
+    } else {
+        0
     }
-    if MOST < n {
-        return 0;
-    }
-    n as usize
 }

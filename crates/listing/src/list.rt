@@ -14,15 +14,14 @@ use advance::Task;
 use cell::Cell;
 use lines::{put_started, put_stepped};
 use record::Run;
-use refusal::refuses;
+use refusal::Refusal;
 use run::go::on_cell;
 
-// Where the lines end, the run afterwards, and whether there is more: a refused call is the last.
+// Where the lines end, and the run afterwards or the refusal: a refused call is the last.
 #[derive(Clone, Copy)]
 pub struct Listed {
     pub end: usize,
-    pub run: Run,
-    pub more: bool,
+    pub run: Result<Run, Refusal>,
 }
 
 fn no_run() -> Run
@@ -50,10 +49,10 @@ pub fn list_start(
     at: usize,
 ) -> Listed
     requires { at + call_room ≤ length out.old }
-    ensures { ListedAs (columns letter.old low.old high.old) (columns letter.new low.new high.new) (columns wletter.old wlow.old whigh.old) (columns wletter.new wlow.new whigh.new) no_run (task_call (check_circuit (circuit_of cell)) (Start used) (columns letter.old low.old high.old) no_run (columns wletter.old wlow.old whigh.old)) (started_lines (circuit_of cell)) out.old out.new at result.end result.run result.more }
+    ensures { ListedAs (columns letter.old low.old high.old) (columns letter.new low.new high.new) (columns wletter.old wlow.old whigh.old) (columns wletter.new wlow.new whigh.new) (task_call (check_circuit (circuit_of cell)) (Start used) (columns letter.old low.old high.old) no_run (columns wletter.old wlow.old whigh.old)) (started_lines (circuit_of cell)) out.old out.new at result.end result.run }
 {
     let none = no_run();
-    let went = on_cell(
+    let run = on_cell(
         cell,
         Task::Start(used),
         letter,
@@ -64,11 +63,8 @@ pub fn list_start(
         wlow,
         whigh,
     );
-    let reply = went.reply;
-    let run = went.run;
-    let end = put_started(out, at, letter, low, high, cell.header, reply, run);
-    let more = !refuses(reply);
-    Listed { end, run, more }
+    let end = put_started(out, at, letter, low, high, cell.header, run);
+    Listed { end, run }
 }
 
 // A step of run `r`, the next after `steps`.
@@ -86,23 +82,9 @@ pub fn list_step(
     at: usize,
 ) -> Listed
     requires { at + call_room ≤ length out.old }
-    ensures { ListedAs (columns letter.old low.old high.old) (columns letter.new low.new high.new) (columns wletter.old wlow.old whigh.old) (columns wletter.new wlow.new whigh.new) r (task_call (check_circuit (circuit_of cell)) Step (columns letter.old low.old high.old) r (columns wletter.old wlow.old whigh.old)) (stepped_lines (circuit_of cell) r.time r.values steps) out.old out.new at result.end result.run result.more }
+    ensures { ListedAs (columns letter.old low.old high.old) (columns letter.new low.new high.new) (columns wletter.old wlow.old whigh.old) (columns wletter.new wlow.new whigh.new) (task_call (check_circuit (circuit_of cell)) Step (columns letter.old low.old high.old) r (columns wletter.old wlow.old whigh.old)) (stepped_lines (circuit_of cell) r.time r.values steps) out.old out.new at result.end result.run }
 {
-    let went = on_cell(cell, Task::Step, letter, low, high, r, wletter, wlow, whigh);
-    let reply = went.reply;
-    let run = went.run;
-    let end = put_stepped(
-        out,
-        at,
-        letter,
-        low,
-        high,
-        cell.header,
-        reply,
-        run,
-        r,
-        steps,
-    );
-    let more = !refuses(reply);
-    Listed { end, run, more }
+    let run = on_cell(cell, Task::Step, letter, low, high, r, wletter, wlow, whigh);
+    let end = put_stepped(out, at, letter, low, high, cell.header, run, r, steps);
+    Listed { end, run }
 }

@@ -6,7 +6,7 @@ use cell::Cell;
 use fields::line::{put_cell, put_refused};
 use format::Header;
 use record::Run;
-use refusal::{Refusal, Reply};
+use refusal::Refusal;
 use std::io::{Read, Write};
 use system::read_full;
 
@@ -48,10 +48,10 @@ fn print_steps<W: Write>(
         );
         let end = listed.end;
         let _ = output.write_all(&out[..end]);
-        if !listed.more {
-            return;
+        match listed.run {
+            Ok(run) => now = run,
+            Err(_) => return,
         }
-        now = listed.run;
     }
 }
 
@@ -71,8 +71,7 @@ fn print_run<W: Write>(
     );
     let end = listed.end;
     let _ = output.write_all(&out[..end]);
-    if listed.more {
-        let r = listed.run;
+    if let Ok(r) = listed.run {
         print_steps(output, cell, letter, low, high, r, wletter, wlow, whigh);
     }
 }
@@ -88,16 +87,14 @@ fn print_listing<W: Write>(
     wlow: &mut [u32],
     whigh: &mut [u32],
 ) {
-    let reading = Cell::read(file);
-    let reply = reading.reply;
-    match reply {
-        Reply::Done => {
-            let cell = reading.cell;
+    match Cell::read(file) {
+        Ok(cell) => {
             print_cell(output, cell.header);
-            table::fresh(letter, low, high);
+            // lengths that are refused here are refused by the start
+            let _ = table::fresh(letter, low, high);
             print_run(output, cell, letter, low, high, wletter, wlow, whigh);
         }
-        Reply::Refused(why) => print_refusal(output, why),
+        Err(why) => print_refusal(output, why),
     }
 }
 

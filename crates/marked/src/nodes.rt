@@ -109,8 +109,7 @@ pub fn all_by_marks(
     let count = net[net::NODES] as usize;
     let mut out = [0u32; 24];
     let mut now = used;
-    let mut i = 0;
-    while i < count {
+    for i in 0..count {
         let p = by_mark(
             net,
             wletter,
@@ -140,7 +139,6 @@ pub fn all_by_marks(
         }
         out[i] = p.entry;
         now = p.used;
-        i += 1;
     }
     Many {
         stop: Stop::Going,

@@ -1,13 +1,13 @@
 -- Laws of entries by node number: writing them, and their numbers at a pattern.
 use mathlib.Core.Path.{◌≡◌, refl, sym, ◌∙◌, ap}
-use mathlib.Core.Logic.{⊎_elim}
 use mathlib.Core.List.{List, [], ◌∷◌, ◌++◌}
 use Prim.Native.Nat.{ℕ, ◌+◌, ◌-◌, ◌≤◌, ◌<◌}
 use native.Mathlib.Omega.{arith}
-use lib.ListN.{length, get_or, set, replicate, length-set, length-append, get_or-append}
-use lib.Seq.{get_or-set_same, get_or-set_other, get_or-append-add}
-use Rattle.lists.proofs.Cases.{eq_or_ne}
-use Rattle.lists.proofs.Padded.{replicate_read, padded_length, padded_at}
+use lib.ListN.{length, get_or, take, drop, replicate, length-append, get_or-append, get_or-eq_default}
+use lib.Seq.{get_or-take, get_or-append-add, length-take-le}
+use Rattle.std.proofs.lemmas.List.{drop-replicate}
+use Rattle.lists.specs.Padded.{padded}
+use Rattle.lists.proofs.Padded.{padded_length, padded_at, padded_read}
 use Rattle.lists.proofs.Map.{map_at}
 use Rattle.diagram.specs.Table.{Table, number_at}
 use Rattle.net.specs.Roots.{roots_length, change_place}
@@ -15,54 +15,25 @@ use Rattle.descent.specs.Settle.{leaf_at}
 use Rattle.marked.specs.Changes.{entries_for}
 use Rattle.moment.specs.ByNode.{ByNode}
 
--- the rails' entries alone
-pub rails_placed : (ground supply : ℕ) (entries : List ℕ) → ByNode ground supply entries 0 (set (set (replicate 26 0) 0 ground) 1 supply)
-rails_placed ground supply entries = record {
-  long = refl;
-  ground_is = refl;
-  supply_is = refl;
-  node_is = λ i h. absurd (omega arith);
-  past_is = λ j h.
-      get_or-set_other (set (replicate 26 0) 0 ground) 1 j supply 0 (λ e. omega arith)
-      ∙ get_or-set_other (replicate 26 0) 0 j ground 0 (λ e. omega arith)
-      ∙ replicate_read 26 j 0;
-}
-
--- one more node record's
-pub node_placed : {ground supply : ℕ} {entries : List ℕ} {i : ℕ} {out : List ℕ} → ByNode ground supply entries i out → i < 24
-    → ByNode ground supply entries (i + 1) (set out (i + 2) (get_or entries i 0))
-node_placed {ground} {supply} {entries} {i} {out} b few =
-    let e : ℕ = get_or entries i 0 in
+-- the rails' entries before those of the first node records, and zeros past them
+pub by_places : (ground supply count : ℕ) (entries first : List ℕ) → length entries ≡ 24 → count ≤ 24 → first ≡ take count entries
+    → ByNode ground supply entries count (ground ∷ supply ∷ (first ++ drop count (replicate 24 0)))
+by_places ground supply count entries first long few e =
+    let rest : List ℕ = first ++ drop count (replicate 24 0) in
+    let taken : length (take count entries) ≡ count = length-take-le count entries (omega arith) in
+    let is : rest ≡ padded 24 0 (take count entries) = rw (e, taken) (ap (λ (zs : List ℕ). take count entries ++ zs) (drop-replicate count 24 0)) in
+    let rest_long : length rest ≡ 24 = ap (λ (l : List ℕ). length l) is ∙ padded_length 24 0 (take count entries) (omega arith) in
+    let read : (i : ℕ) → get_or (ground ∷ supply ∷ rest) (2 + i) 0 ≡ get_or (take count entries) i 0 =
+    λ i. get_or-append-add (ground ∷ supply ∷ []) rest i 0 ∙ ap (λ (l : List ℕ). get_or l i 0) is ∙ padded_read 24 0 (take count entries) i in
     record {
-      long = length-set out (i + 2) e ∙ b.long;
-      ground_is = get_or-set_other out (i + 2) 0 e 0 (λ q. omega arith) ∙ b.ground_is;
-      supply_is = get_or-set_other out (i + 2) 1 e 0 (λ q. omega arith) ∙ b.supply_is;
-      node_is = λ j h.
-          ⊎_elim
-          (λ (q : j ≡ i).
-          let same : 2 + j ≡ i + 2 = omega arith in
-          rw (same, q) (get_or-set_same out (i + 2) (get_or entries i 0) 0 (omega (arith, b.long))))
-          (λ (ne : j ≡ i → ⊥). get_or-set_other out (i + 2) (2 + j) e 0 (λ q. ne (omega arith)) ∙ b.node_is j (omega (arith, ne)))
-          (eq_or_ne j i);
-      past_is = λ j h. get_or-set_other out (i + 2) j e 0 (λ q. omega arith) ∙ b.past_is j (omega arith);
+      long = omega (arith, rest_long);
+      ground_is = refl;
+      supply_is = refl;
+      node_is = λ i h. read i ∙ get_or-take count entries i 0 h;
+      past_is = λ j h.
+          let from : j ≡ 2 + (j - 2) = omega arith in
+          rw from (read (j - 2) ∙ get_or-eq_default (take count entries) 0 {n = j - 2} (omega arith));
     }
-
--- a loop over the node records
-pub record Placing (ground supply : ℕ) (entries : List ℕ) (count i : ℕ) (out : List ℕ) : Type 0 where
-  pub few : i ≤ count
-  pub placed : ByNode ground supply entries i out
-
-pub placing_first : (ground supply : ℕ) (entries : List ℕ) (count : ℕ) → Placing ground supply entries count 0 (set (set (replicate 26 0) 0 ground) 1 supply)
-placing_first ground supply entries count = record { few = omega arith; placed = rails_placed ground supply entries }
-
-pub placing_next : {ground supply : ℕ} {entries : List ℕ} {count i : ℕ} {out : List ℕ} → Placing ground supply entries count i out → i < count → count ≤ 24
-    → Placing ground supply entries count (i + 1) (set out (i + 2) (get_or entries i 0))
-placing_next s lt le = record { few = omega arith; placed = node_placed s.placed (omega arith) }
-
-pub placing_done : {ground supply : ℕ} {entries : List ℕ} {count i : ℕ} {out : List ℕ} → Placing ground supply entries count i out → count ≤ i → ByNode ground supply entries count out
-placing_done {count = count} {i} s le =
-    let z : i ≡ count = omega (arith, s.few) in
-    rw z at s.placed
 
 -- the numbers at a pattern of the entries by which node n is evaluated
 module _ (k : ℕ) (t : Table) (before after pending : List ℕ) (n p : ℕ) (lb : length before ≡ 26) (la : length after ≡ 26) where

@@ -41,11 +41,7 @@ fn by_number(low: u32, supply: u32, entries: [u32; 24], count: usize) -> [u32; 2
     let mut out = [0u32; 26];
     out[0] = low;
     out[1] = supply;
-    let mut i = 0;
-    while i < count {
-        out[i + 2] = entries[i];
-        i += 1;
-    }
+    out[2..2 + count].copy_from_slice(&entries[..count]);
     out
 }
 

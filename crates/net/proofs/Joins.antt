@@ -1,6 +1,6 @@
 -- Laws of a row of numbers, of labels in a row, and of the groups.
 use mathlib.Core.Path.{◌≡◌, refl, sym, ◌∙◌, ap, subst}
-use mathlib.Core.Logic.{◌⊎◌, ⊎_elim}
+use mathlib.Core.Logic.{⊎_elim}
 use mathlib.Core.Bool.{Bool, true, false, ◌&&◌, cond}
 use mathlib.Core.List.{List, [], ◌∷◌, ◌++◌}
 use Prim.Native.Nat.{ℕ, ◌+◌, ◌-◌, ◌≤◌, ◌<◌}
@@ -43,6 +43,12 @@ module _ (place : ℕ) (f : ℕ → ℕ) where
           (λ (g : i < k). get_or-set_other net (place + k) (place + i) v 0 (omega arith) ∙ p.each i g)
           (λ (g : k ≤ i). let same : i ≡ k = omega arith in rw same (get_or-set_same net (place + k) v 0 h ∙ e))
           (lt_or_ge i k)
+
+  pub row_kept : (k : ℕ) (before net : List ℕ) → Row place k f before net → at net (place + k) ≡ f k → Row place (k + 1) f before net
+  row_kept k before net p e = record {
+    rest = only_wider place (place + (k + 1)) (omega arith) (omega arith) p.rest;
+    each = λ i l. ⊎_elim (λ (g : i < k). p.each i g) (λ (g : k ≤ i). let same : i ≡ k = omega arith in rw same e) (lt_or_ge i k);
+  }
 
 -- at first each node's label is its number
 pub labelled_first : (place nodes : ℕ) (before after : List ℕ) → nodes ≤ 24 → Row place 26 (λ (n : ℕ). n) before after → Labelled after place (up_from nodes 2)

@@ -1,8 +1,8 @@
 -- Laws of the cell that a column lays out: what it reads, when it is legal, and when it stays the same.
-use mathlib.Core.Path.{◌≡◌, refl, sym, ◌∙◌, ap, subst}
-use mathlib.Core.List.{List, [], ◌∷◌, map}
-use mathlib.Core.Logic.{◌⊎◌, ⊎_elim}
-use Prim.Native.Nat.{ℕ, zero, suc, ◌+◌, ◌-◌, ◌*◌, ◌≤◌, ◌<◌}
+use mathlib.Core.Path.{◌≡◌, refl, sym, ◌∙◌, ap}
+use mathlib.Core.List.{List, map}
+use mathlib.Core.Logic.{⊎_elim}
+use Prim.Native.Nat.{ℕ, ◌+◌, ◌-◌, ◌≤◌, ◌<◌}
 use native.Mathlib.Omega.{arith}
 use lib.ListN.{length, get_or, length-map}
 use lib.Seq.{ext_get_or}
@@ -12,7 +12,6 @@ use Rattle.lists.proofs.Map.{map_at, map_same}
 use Rattle.refusal.specs.Answer.{answered}
 use Rattle.units.specs.Units.{picoseconds}
 use Rattle.format.specs.declared.Node.{Node}
-use Rattle.format.specs.declared.Transistor.{Transistor}
 use Rattle.format.specs.declared.Entry.{Entry}
 use Rattle.format.specs.Circuit.{Circuit, no_node, no_transistor, no_entry, node_record}
 use Rattle.format.specs.Legal.{most_nodes, most_transistors, most_entries, most_horizon, is_input, check_circuit}

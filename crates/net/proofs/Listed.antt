@@ -1,16 +1,16 @@
 -- Laws of the listed arms.
 use mathlib.Core.Path.{◌≡◌, refl, sym, ◌∙◌, ap}
-use mathlib.Core.Logic.{◌⊎◌, ⊎_elim}
+use mathlib.Core.Logic.{⊎_elim}
 use mathlib.Core.Bool.{Bool, true, false, ◌||◌, cond}
-use mathlib.Core.List.{List, [], ◌∷◌, ◌++◌, append_assoc, append-nil}
+use mathlib.Core.List.{List, [], ◌∷◌, ◌++◌, append-nil}
 use Prim.Native.Nat.{ℕ, zero, suc, ◌+◌, ◌-◌, ◌*◌, ◌≤◌, ◌<◌}
 use native.Mathlib.Numerals.{add-one}
 use native.Mathlib.Omega.{arith}
-use lib.ListN.{length, get_or, take, drop, set, length-drop, length-set}
+use lib.ListN.{length, get_or, take, drop, set, length-drop}
 use lib.Seq.{take-suc, take_all, take-suc-set, take-set-le, drop-set-lt, drop-set-add, length-take-le}
 use lib.Dec.{eqb}
 use borrow.Author.Tests.{eq-eqb, ne_eqb, eqb-true}
-use Rattle.lists.proofs.Cases.{bool_cases, lt_or_ge, eq_or_ne}
+use Rattle.lists.proofs.Cases.{lt_or_ge, eq_or_ne}
 use Rattle.format.specs.declared.Transistor.{Transistor}
 use Rattle.format.specs.Circuit.{no_transistor}
 use Rattle.net.specs.Net.{net_length, at, net_transistor, net_circuit, arms_from, net_arms}

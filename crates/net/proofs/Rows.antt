@@ -1,7 +1,7 @@
 -- Laws of the fields of the records in a column.
-use mathlib.Core.Path.{◌≡◌, refl, sym, ◌∙◌, ap}
-use mathlib.Core.List.{List, [], ◌∷◌}
-use Prim.Native.Nat.{ℕ, ◌+◌, ◌≤◌, ◌<◌}
+use mathlib.Core.Path.{◌≡◌, ◌∙◌}
+use mathlib.Core.List.{List}
+use Prim.Native.Nat.{ℕ, ◌+◌, ◌<◌}
 use native.Mathlib.Omega.{arith}
 use lib.ListN.{length, get_or}
 use Rattle.units.specs.Units.{ohms, femtofarads, picoseconds}
@@ -10,7 +10,7 @@ use Rattle.format.specs.declared.Transistor.{Transistor}
 use Rattle.format.specs.declared.Entry.{Entry}
 use Rattle.format.specs.Circuit.{no_node, no_transistor, no_entry}
 use Rattle.format.specs.Legal.{most_nodes, most_transistors, most_entries}
-use Rattle.net.specs.Net.{net_length, at, net_node, net_transistor, net_entry}
+use Rattle.net.specs.Net.{net_length, net_node, net_transistor, net_entry}
 use Rattle.net.specs.Written.{OnlyAt, puts, Put, node_writes, transistor_writes, entry_writes}
 use Rattle.net.proofs.Only.{puts_away, puts_hit, puts_only, length_puts, put_more}
 

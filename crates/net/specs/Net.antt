@@ -1,10 +1,10 @@
 -- A cell laid out flat in one column of numbers, with each node's arms listed: what the work of a step reads.
-use Rattle.std.specs.Prelude.{ℕ, zero, suc, ◌+◌, ◌*◌, List, [], ◌∷◌, map, Bool, ◌||◌, cond, ◌≡◌, length, get_or, take, drop, eqb}
+use Rattle.std.specs.Prelude.{ℕ, suc, ◌+◌, ◌*◌, List, [], ◌∷◌, map, ◌||◌, cond, get_or, take, drop, eqb}
 use Rattle.units.specs.Units.{ohms, femtofarads, picoseconds}
 use Rattle.format.specs.declared.Node.{Node}
 use Rattle.format.specs.declared.Transistor.{Transistor}
 use Rattle.format.specs.declared.Entry.{Entry}
-use Rattle.format.specs.Circuit.{Circuit, first_node_number}
+use Rattle.format.specs.Circuit.{Circuit}
 use Rattle.rules.specs.State.{up_from}
 
 -- the places: N, M, E, K, H, then each field of the records, then for each node number how many arms it has, the arms, and its group

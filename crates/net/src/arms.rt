@@ -20,12 +20,10 @@ pub fn put_arms(net: &mut [u32])
     ensures { Armed (net_circuit net.old).transistors (at_place net.old transistors_place) net.old net.new }
 {
     let count = net[crate::TRANSISTORS];
-    let mut i: u32 = 0;
-    while i < count {
+    for i in 0..count {
         let first = net[crate::FIRST + i as usize];
         let second = net[crate::SECOND + i as usize];
         put_arm(net, first, i);
         put_arm(net, second, i);
-        i += 1;
     }
 }

@@ -12,11 +12,7 @@ pub fn is_input(net: &[u32], n: u32) -> bool
     requires { (length net.now ≡ net_length) × Within net.now × (n < first_node_number + at_place net.now nodes_place) }
     ensures { result ≡ is_input (net_circuit net.now) n }
 {
-    if n < 2 {
-        return false;
-    }
-    let role = net[crate::ROLE + (n as usize - 2)];
-    role == 1
+    n >= 2 && net[crate::ROLE + (n as usize - 2)] == 1
 }
 
 // Neither a rail nor an input.
@@ -24,7 +20,7 @@ pub fn is_inner(net: &[u32], n: u32) -> bool
     requires { (length net.now ≡ net_length) × Within net.now × (n < first_node_number + at_place net.now nodes_place) }
     ensures { result ≡ is_inner (net_circuit net.now) n }
 {
-    !((n < 2) | is_input(net, n))
+    n >= 2 && !is_input(net, n)
 }
 
 // Transistor i lies between two inner nodes.
@@ -34,5 +30,5 @@ pub fn between_inner(net: &[u32], i: u32) -> bool
 {
     let first = net[crate::FIRST + i as usize];
     let second = net[crate::SECOND + i as usize];
-    is_inner(net, first) & is_inner(net, second)
+    is_inner(net, first) && is_inner(net, second)
 }

@@ -1,5 +1,5 @@
 // Labels of the 26 nodes, in a column from a place on: nodes that are joined have one label.
-ghost use Rattle.std.specs.Prelude.{◌≡◌, cond, ℕ, ◌+◌, ◌<◌, ◌≤◌, eqb, length};
+ghost use Rattle.std.specs.Prelude.{ℕ, ◌+◌, ◌<◌, ◌≤◌, length};
 ghost use Rattle.net.specs.Net.{at as at_place};
 ghost use Rattle.net.specs.Written.{Row, relabelled};
 
@@ -8,30 +8,19 @@ pub fn start(column: &mut [u32], place: usize)
     requires { place + 26 ≤ length column.old }
     ensures { Row place 26 (λ (n : ℕ). n) column.old column.new }
 {
-    let mut n: u32 = 0;
-    while n < 26 {
+    for n in 0..26u32 {
         column[place + n as usize] = n;
-        n += 1;
     }
-}
-
-fn exchanged(label: u32, old: u32, new: u32) -> u32
-    ensures { result ≡ cond (eqb label old) new label }
-{
-    if label == old {
-        return new;
-    }
-    label
 }
 
 fn relabel(column: &mut [u32], place: usize, old: u32, new: u32)
     requires { place + 26 ≤ length column.old }
     ensures { Row place 26 (relabelled column.old place old new) column.old column.new }
 {
-    let mut n: usize = 0;
-    while n < 26 {
-        column[place + n] = exchanged(column[place + n], old, new);
-        n += 1;
+    for n in 0..26 {
+        if column[place + n] == old {
+            column[place + n] = new;
+        }
     }
 }
 

@@ -39,10 +39,8 @@ pub fn put_groups(net: &mut [u32])
 {
     labels::start(net, crate::GROUP);
     let count = net[crate::TRANSISTORS];
-    let mut i: u32 = 0;
-    while i < count {
+    for i in 0..count {
         note_loop(net, i);
         link(net, i);
-        i += 1;
     }
 }

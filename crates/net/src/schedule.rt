@@ -13,14 +13,11 @@ pub fn source_at(net: &[u32], time: u32, n: u32) -> u32
     requires { Laid (net_circuit net.now) net.now }
     ensures { Due (at_place net.now letters_place) (net_circuit net.now).schedule time n result }
 {
-    let count = net[crate::ENTRIES] as usize;
-    let mut i = 0;
-    while i < count {
+    for i in 0..net[crate::ENTRIES] as usize {
         let at = entry_time(net, i);
-        if (at.0 == time as u64) & (net[crate::INPUT + i] == n) {
+        if at.0 == time as u64 && net[crate::INPUT + i] == n {
             return net[crate::SOURCE + i];
         }
-        i += 1;
     }
     NONE
 }

@@ -3,14 +3,13 @@
 // Where standard output does not take all bytes, standard error says `not written`.
 #![tactic(auto)]
 
-ghost use Rattle.std.specs.Prelude.{◌≡◌, ◌≤◌, length, take};
+ghost use Rattle.std.specs.Prelude.{◌≤◌, length};
 ghost use Rattle.fields.specs.Line.{line_room};
-ghost use Rattle.output.specs.Printed.{reply_line, SavingPrinted};
+ghost use Rattle.output.specs.Printed.{SavingPrinted};
 
 use fields::line::put_refused;
-use refusal::Reply;
+use refusal::Refusal;
 use std::io::Write;
-use writer::Saving;
 
 // How many bytes go to standard output, and how many to standard error.
 #[derive(Clone, Copy)]
@@ -19,27 +18,23 @@ pub struct Printed {
     pub errors: usize,
 }
 
-// A refusal's line, at the front of the buffer; how long it is.
-fn put_reply(errors: &mut [u8], reply: Reply) -> usize
-    requires { line_room ≤ length errors.old }
-    ensures { (take result errors.new ≡ reply_line reply) × (result ≤ length errors.new) }
-{
-    match reply {
-        Reply::Done => 0,
-        Reply::Refused(why) => put_refused(errors, 0, why),
-    }
-}
-
 // What is to be printed of a call that saved: its file, or its refusal.
-pub fn put_saving(errors: &mut [u8], saving: Saving) -> Printed
+pub fn put_saving(errors: &mut [u8], saving: Result<u32, Refusal>) -> Printed
     requires { line_room ≤ length errors.old }
     ensures { SavingPrinted saving errors.new result }
 {
-    let reply = saving.reply;
-    let end = put_reply(errors, reply);
-    Printed {
-        output: saving.length as usize,
-        errors: end,
+    match saving {
+        Ok(length) => Printed {
+            output: length as usize,
+            errors: 0,
+        },
+        Err(why) => {
+            let end = put_refused(errors, 0, why);
+            Printed {
+                output: 0,
+                errors: end,
+            }
+        }
     }
 }
 

@@ -19,7 +19,8 @@ use Rattle.rules.specs.Delay.{in_ohms}
 use Rattle.rules.specs.Step.{target, exceeds, delay_by, delay_to, next_change}
 use Rattle.net.specs.Net.{nodes_place, horizon_place, at, net_circuit}
 use Rattle.net.proofs.Laying.{nodes_length, horizon_at}
-use Rattle.plain.specs.declared.Next.TheVariants.{At, Exceeds}
+use Rattle.std.specs.Prelude.{Result, Ok, Err, IsErr}
+use Rattle.units.specs.declared.AboveCeiling.{AboveCeiling}
 use Rattle.plain.specs.Leaf.{leaf_channels, leaf_state, leaf_sum, leaf_load, leaf_target, leaf_delay, leaf_exceeds, leaf_move, leaf_next}
 use Rattle.plain.specs.Ready.{Ready, Noded}
 use Rattle.plain.proofs.Cell.{leaf_value, leaf_change_lem}
@@ -51,9 +52,9 @@ module _ (net leaf : List ℕ) (h : Ready net leaf) (n : ℕ) (l : n < 2 + at ne
       ohms_fit Infinite p = omega arith
       ohms_fit (Finite r) p = omega arith
 
-module _ (net leaf : List ℕ) (h : Ready net leaf) (n : ℕ) (k : Noded net n) (time pending : ℕ) where
+module _ (net leaf : List ℕ) (ready : Ready net leaf) (n : ℕ) (k : Noded net n) (time pending : ℕ) where
   value_pending : value_at (leaf_state (net_circuit net) pending leaf) n ≡ get_or leaf n 0
-  value_pending = leaf_value (net_circuit net) leaf pending h.numbers n (omega (arith, nodes_length net, k.most))
+  value_pending = leaf_value (net_circuit net) leaf pending ready.numbers n (omega (arith, nodes_length net, k.most))
 
   -- a node that goes to its own value has no next change
   pub next_keeps : leaf_target net leaf n ≡ get_or leaf n 0 → leaf_move net leaf time pending n ≡ 4294967295
@@ -77,9 +78,10 @@ module _ (net leaf : List ℕ) (h : Ready net leaf) (n : ℕ) (k : Noded net n) 
       )
 
   -- as an answer: that it exceeds the ceiling
-  pub next_exceeds : (leaf_sum net leaf (at net nodes_place) none n).exceeds ≡ true → Exceeds ≡ leaf_next net leaf time pending n
-  next_exceeds e = rw (exceeds_sum net leaf h n k.most, e)
+  pub next_exceeds : (leaf_sum net leaf (at net nodes_place) none n).exceeds ≡ true → (r : Result ℕ AboveCeiling) → IsErr r → r ≡ leaf_next net leaf time pending n
+  next_exceeds e (Ok v) h = let z : false ≡ true = h in cc
+  next_exceeds e (Err x) h = rw (exceeds_sum net leaf ready n k.most, e)
 
   -- or its next change
-  pub next_at_lem : (leaf_sum net leaf (at net nodes_place) none n).exceeds ≡ false → {v : ℕ} → v ≡ leaf_move net leaf time pending n → At v ≡ leaf_next net leaf time pending n
-  next_at_lem e p = rw (exceeds_sum net leaf h n k.most, e) (ap At p)
+  pub next_at_lem : (leaf_sum net leaf (at net nodes_place) none n).exceeds ≡ false → {v : ℕ} → v ≡ leaf_move net leaf time pending n → Ok v ≡ leaf_next net leaf time pending n
+  next_at_lem e p = rw (exceeds_sum net leaf ready n k.most, e) (ap Ok p)

@@ -19,7 +19,8 @@ use Rattle.rules.proofs.Step.{delay_least, started_change, started_from_lem, ini
 use Rattle.rules.proofs.Nodes.{some_nodes, each_fails}
 use Rattle.rules.proofs.Local.{Local, exceeds_local, change_local}
 use Rattle.net.specs.Net.{net_circuit}
-use Rattle.plain.specs.declared.Next.TheVariants.{At, Exceeds}
+use Rattle.std.specs.Prelude.{Ok, Err}
+use Rattle.units.specs.Units.{above_ceiling}
 use Rattle.plain.specs.Exceeded.{number_of, change_or_exceeded, any_exceeded}
 use Rattle.plain.specs.Settle.{considers, change_between, started_or_exceeded, stepped_or_exceeded}
 use Rattle.plain.specs.Leaf.{leaf_state, leaf_channels, leaf_exceeds, leaf_move, leaf_next, leaf_change}
@@ -32,7 +33,7 @@ number_change net leaf time pending n =
     by (leaf_exceeds net leaf n)
     ∙ ap (λ (b : Bool). cond b 0 (leaf_move net leaf time pending n)) (same_exceeds (net_circuit net) (leaf_state (net_circuit net) 0 leaf) (leaf_state (net_circuit net) pending leaf) (leaf_channels (net_circuit net) leaf) refl n)
   where
-    by : (b : Bool) → number_of (cond b Exceeds (At (leaf_move net leaf time pending n))) ≡ cond b 0 (leaf_move net leaf time pending n)
+    by : (b : Bool) → number_of (cond b (Err above_ceiling) (Ok (leaf_move net leaf time pending n))) ≡ cond b 0 (leaf_move net leaf time pending n)
     by true = refl
     by false = refl
 

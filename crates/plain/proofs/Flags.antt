@@ -20,6 +20,7 @@ use Rattle.plain.specs.Leaf.{kept_by}
 use Rattle.plain.specs.Shown.{Column, Shows}
 use Rattle.plain.specs.Leaves.{conducts_at, keeps_at, OneKept, labels_after}
 use Rattle.plain.proofs.Values.{value_shown}
+use mir.Val.{bool_byte}
 
 -- the test, read off columns, is that of the state and the labels
 pub keeps_shown : (c : Circuit) (values labels : List ℕ) (s : State) (ls : Labels) (t : Transistor) → Column values → Shows c values s → length ls ≡ length c.nodes → Labelled labels 0 ls → TransistorWithin (length c.nodes) t
@@ -38,6 +39,11 @@ keeps_shown c values labels s ls t w shows len was in-net =
   where
     label : (n : ℕ) → IsNode (length ls) n → get_or labels n 0 ≡ label_at ls n
     label n h = let place : n ≡ 0 + n = omega arith in ap (λ (i : ℕ). get_or labels i 0) place ∙ was n h.least h.most
+
+-- a test as a flag
+pub flag_of : (b : Bool) → bool_byte b ≡ cond b 1 0
+flag_of true = refl
+flag_of false = refl
 
 -- what one turn of the loop gives, by the test that it made
 pub one_kept : (c : Circuit) (values : List ℕ) (i : ℕ) (t : Transistor) (leaf labels after : List ℕ) (b : Bool) (r : ℕ) → b ≡ keeps_at c values labels t → r ≡ cond b 1 0

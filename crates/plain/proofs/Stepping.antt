@@ -1,7 +1,8 @@
 -- Start and step of one pattern: the columns that the parts give show the states of the definitions.
 use mathlib.Core.Path.{◌≡◌, refl, sym, ◌∙◌, ap, ap₂}
 use mathlib.Core.List.{List}
-use mathlib.Core.Bool.{Bool, true, false}
+use mathlib.Core.Bool.{true, false}
+use Rattle.std.specs.Prelude.{Ok}
 use Prim.Native.Nat.{ℕ, ◌+◌, ◌-◌, ◌≤◌, ◌<◌}
 use native.Mathlib.Omega.{arith}
 use lib.ListN.{length, get_or, replicate, get_or-replicate}
@@ -85,14 +86,15 @@ module _ (net : List ℕ) (laid : Laid (net_circuit net) net) where
       start_told : any_exceeded (net_circuit net) (shown_by (net_circuit net) values changes) ≡ start_exceeds (net_circuit net) p
       start_told = ap (any_exceeded c) start_shown ∙ start_exceeded c p
 
-      -- without one they show the start
-      pub start_goes : {b : Bool} → b ≡ any_exceeded (net_circuit net) (shown_by (net_circuit net) values changes)
-          → Goes (net_circuit net) (start_exceeds (net_circuit net) p) (started (net_circuit net) p) (record { exceeds = b; state = record { values = values; changes = changes } })
-      start_goes told = record {
-        exceeds = told ∙ start_told;
-        state = λ e. start_shown ∙ start_not_exceeded c p e;
-        proper = λ e. proper w sources_bits (h (initial c p) (initial c p) start_showing) (start_told ∙ e);
-      }
+      -- with one the start exceeds, without one they show it
+      pub start_over : true ≡ any_exceeded (net_circuit net) (shown_by (net_circuit net) values changes) → start_exceeds (net_circuit net) p ≡ true
+      start_over told = sym start_told ∙ sym told
+
+      pub start_goes : false ≡ any_exceeded (net_circuit net) (shown_by (net_circuit net) values changes)
+          → Goes (net_circuit net) (start_exceeds (net_circuit net) p) (started (net_circuit net) p) (Ok (record { values = values; changes = changes }))
+      start_goes told =
+          let within : start_exceeds (net_circuit net) p ≡ false = sym start_told ∙ sym told in
+          (within, start_shown ∙ start_not_exceeded c p within, proper w sources_bits (h (initial c p) (initial c p) start_showing) (sym told))
 
   module _ (time p : ℕ) (old pending : List ℕ) {values : List ℕ} (b : Bits (net_circuit net) old) (long : length pending ≡ 26)
       (w : Filled 0 1 (λ (n : ℕ). arrived_at (net_circuit net) time p n (get_or old n 0) (get_or pending n 0)) (2 + at net 0) values) where
@@ -138,11 +140,12 @@ module _ (net : List ℕ) (laid : Laid (net_circuit net) net) where
       step_told : NoneExceeded (net_circuit net) pending → any_exceeded (net_circuit net) (shown_by (net_circuit net) values changes) ≡ step_exceeds (net_circuit net) time p (shown_by (net_circuit net) old pending)
       step_told later = ap (any_exceeded c) step_shown ∙ step_exceeded c time p s (λ n k. rw (change_shown net laid old pending long n k) (later n k.least k.most))
 
-      -- without one they show the step
-      pub step_goes : NoneExceeded (net_circuit net) pending → {b : Bool} → b ≡ any_exceeded (net_circuit net) (shown_by (net_circuit net) values changes)
-          → Goes (net_circuit net) (step_exceeds (net_circuit net) time p (shown_by (net_circuit net) old pending)) (stepped (net_circuit net) time p (shown_by (net_circuit net) old pending)) (record { exceeds = b; state = record { values = values; changes = changes } })
-      step_goes later told = record {
-        exceeds = told ∙ step_told later;
-        state = λ e. step_shown ∙ step_not_exceeded c time p s e;
-        proper = λ e. proper w after_bits (h s (arrived c time p s) step_showing) (step_told later ∙ e);
-      }
+      -- with one the step exceeds, without one they show it
+      pub step_over : NoneExceeded (net_circuit net) pending → true ≡ any_exceeded (net_circuit net) (shown_by (net_circuit net) values changes) → step_exceeds (net_circuit net) time p (shown_by (net_circuit net) old pending) ≡ true
+      step_over later told = sym (step_told later) ∙ sym told
+
+      pub step_goes : NoneExceeded (net_circuit net) pending → false ≡ any_exceeded (net_circuit net) (shown_by (net_circuit net) values changes)
+          → Goes (net_circuit net) (step_exceeds (net_circuit net) time p (shown_by (net_circuit net) old pending)) (stepped (net_circuit net) time p (shown_by (net_circuit net) old pending)) (Ok (record { values = values; changes = changes }))
+      step_goes later told =
+          let within : step_exceeds (net_circuit net) time p (shown_by (net_circuit net) old pending) ≡ false = sym (step_told later) ∙ sym told in
+          (within, step_shown ∙ step_not_exceeded c time p s within, proper w after_bits (h s (arrived c time p s) step_showing) (sym told))

@@ -7,6 +7,10 @@ use Prim.Native.Nat.{ℕ, zero, suc, ◌+◌, ◌-◌, ◌≤◌, ◌<◌}
 use native.Mathlib.Omega.{arith}
 use lib.ListN.{length, get_or, drop}
 use lib.Seq.{get_or-take, get_or-drop}
+use Rattle.std.proofs.lemmas.List.{get_or-append_right}
+use Rattle.std.proofs.Math.ListN.{get_or-append}
+use Rattle.std.proofs.Common.{◌++◌, length-append, length-drop}
+use Rattle.net.specs.Written.{Row}
 use lib.Dec.{eqb}
 use Rattle.lists.proofs.Cases.{lt_or_ge}
 use Rattle.format.specs.declared.Transistor.{Transistor}
@@ -48,3 +52,16 @@ pub wired : (net : List ℕ) → Laid (net_circuit net) net → (i : ℕ) → i 
 wired net laid i h =
     let g : i < at net 1 = omega (arith, transistors_length net) in
     rw (nodes_length net, transistor_at_lem net i g) (laid.within.transistor i g)
+
+-- values copied to the front of a leaf
+pub row_copied : (leaf values : List ℕ) → 26 ≤ length leaf → length values ≡ 26 → Row 0 26 (λ (n : ℕ). get_or values n 0) leaf (values ++ drop 26 leaf)
+row_copied leaf values most long = record {
+  rest = record {
+    long = simp (length-append, length-drop) (omega arith);
+    below = λ i h. absurd (omega arith);
+    above = λ i h.
+        let place : 26 + (i - 26) ≡ i = omega arith in
+        get_or-append_right values (drop 26 leaf) 26 i 0 long h ∙ get_or-drop 26 leaf (i - 26) 0 ∙ ap (λ (k : ℕ). get_or leaf k 0) place;
+  };
+  each = λ i h. let place : 0 + i ≡ i = omega arith in rw place (get_or-append values (drop 26 leaf) 0 i (omega arith));
+}

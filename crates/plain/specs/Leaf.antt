@@ -1,6 +1,8 @@
 -- The plain numbers of one pattern: 26 values of nodes, then for each transistor whether it is kept. And what the walks over them give.
-use Rattle.std.specs.Prelude.{ℕ, suc, ◌+◌, List, [], ◌∷◌, ◌≡◌, Bool, true, false, cond, length, get_or, take, drop, replicate, ltb, eqb}
+use Rattle.std.specs.Prelude.{ℕ, suc, ◌+◌, List, [], ◌∷◌, ◌≡◌, Bool, true, false, cond, length, get_or, take, drop, replicate, ltb, eqb, Result, Ok, Err}
 use Rattle.std.proofs.Math.Option.{Option, some, none}
+use Rattle.units.specs.declared.AboveCeiling.{AboveCeiling}
+use Rattle.units.specs.Units.{above_ceiling}
 use Rattle.format.specs.declared.Transistor.{Transistor}
 use Rattle.format.specs.Circuit.{Circuit, first_node_number}
 use Rattle.format.specs.Legal.{most_transistors}
@@ -12,11 +14,7 @@ use Rattle.rules.specs.Step.{target, exceeds, delay_by, next_change}
 use Rattle.net.specs.Net.{net_transistor, net_circuit}
 use Rattle.net.specs.Roots.{kept_place}
 use Rattle.plain.specs.declared.Sum.{Sum}
-use Rattle.plain.specs.declared.Walked.{Walked}
-use Rattle.plain.specs.declared.Walked.TheVariants.{Within, Exceeds}
 use Rattle.plain.specs.declared.Load.{Load}
-use Rattle.plain.specs.declared.Next.{Next}
-use Rattle.plain.specs.declared.Next.TheVariants.{At, Exceeds as NoNext}
 use Rattle.plain.specs.Exceeded.{change_or_exceeded}
 
 -- the transistors with a flag, from transistor i on
@@ -68,8 +66,8 @@ leaf_move net leaf time pending n = next_change (net_circuit net) time (leaf_sta
 abbrev pub leaf_exceeds : List ℕ → List ℕ → ℕ → Bool
 leaf_exceeds net leaf n = exceeds (net_circuit net) (leaf_state (net_circuit net) 0 leaf) (leaf_channels (net_circuit net) leaf) n
 
-abbrev pub leaf_next : List ℕ → List ℕ → ℕ → ℕ → ℕ → Next
-leaf_next net leaf time pending n = cond (leaf_exceeds net leaf n) NoNext (At (leaf_move net leaf time pending n))
+abbrev pub leaf_next : List ℕ → List ℕ → ℕ → ℕ → ℕ → Result ℕ AboveCeiling
+leaf_next net leaf time pending n = cond (leaf_exceeds net leaf n) (Err above_ceiling) (Ok (leaf_move net leaf time pending n))
 
 abbrev pub leaf_change : List ℕ → List ℕ → ℕ → ℕ → ℕ → ℕ
 leaf_change net leaf time pending n = change_or_exceeded (net_circuit net) time (leaf_state (net_circuit net) pending leaf) (leaf_channels (net_circuit net) leaf) n
@@ -79,9 +77,9 @@ abbrev pub sum_of : Sum → rules.Sum
 sum_of s = record { high = s.high; low = s.low; high_charge = s.raised; low_charge = s.lowered; exceeds = false }
 
 -- what a walk gives is the node's sum, or that the sum has exceeded the ceiling
-abbrev pub Gives : Walked → rules.Sum → Type 0
-Gives (Within s) v = sum_of s ≡ v
-Gives Exceeds v = v.exceeds ≡ true
+abbrev pub Gives : Result Sum AboveCeiling → rules.Sum → Type 0
+Gives (Ok s) v = sum_of s ≡ v
+Gives (Err e) v = v.exceeds ≡ true
 
 abbrev pub load_of : Load → rules-delay.Load
 load_of l = record { resistance = l.resistance; charge = l.charge }

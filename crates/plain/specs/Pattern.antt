@@ -1,12 +1,12 @@
 -- The state of one pattern on plain numbers, and the state of the rules that it shows.
-use Rattle.std.specs.Prelude.{ℕ, ◌+◌, ◌-◌, ◌≤◌, ◌<◌, List, Bool, false, cond, ◌≡◌, length, get_or, take, drop, eqb}
+use Rattle.std.specs.Prelude.{ℕ, ◌+◌, ◌-◌, ◌≤◌, ◌<◌, List, Bool, true, false, cond, Result, Ok, Err, ◌≡◌, length, get_or, take, drop, eqb}
+use Rattle.units.specs.declared.AboveCeiling.{AboveCeiling}
 use Rattle.format.specs.Circuit.{Circuit, first_node_number}
 use Rattle.format.specs.Legal.{is_input}
 use Rattle.diagram.specs.Table.{never}
 use Rattle.rules.specs.State as rules
 use Rattle.rules.specs.Arrive.{scheduled}
 use Rattle.plain.specs.declared.State.{State}
-use Rattle.plain.specs.declared.Outcome.{Outcome}
 use Rattle.plain.specs.Exceeded.{exceeded}
 use Rattle.plain.specs.Shown.{Column}
 
@@ -37,11 +37,10 @@ pub record Proper (c : Circuit) (s : State) : Type 0 where
   pub ground : get_or s.changes 0 0 ≡ never
   pub supply : get_or s.changes 1 0 ≡ never
 
--- what a start or a step gives: whether it exceeds the ceiling, and the state where it does not
-pub record Goes (c : Circuit) (over : Bool) (next : rules.State) (x : Outcome) : Type 0 where
-  pub exceeds : x.exceeds ≡ over
-  pub state : over ≡ false → shown c x.state ≡ next
-  pub proper : over ≡ false → Proper c x.state
+-- what a start or a step gives: the state, or that it exceeds the ceiling
+abbrev pub Goes : Circuit → Bool → rules.State → Result State AboveCeiling → Type 0
+Goes c over next (Ok s) = (over ≡ false) × (shown c s ≡ next) × Proper c s
+Goes c over next (Err e) = over ≡ true
 
 -- 26 numbers by node number: those of the rails, then f of each node record's number before `past`
 pub record Filled (low high : ℕ) (f : ℕ → ℕ) (past : ℕ) (column : List ℕ) : Type 0 where

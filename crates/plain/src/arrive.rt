@@ -64,13 +64,10 @@ pub fn sources(net: &[u32], p: u32) -> [u32; 26]
     requires { Laid (net_circuit net.now) net.now }
     ensures { Filled 0 1 (λ (n : ℕ). source_at (node_record (net_circuit net.now) n).start p) (first_node_number + at_place net.now nodes_place) result }
 {
-    let past = 2 + net[NODES] as usize;
     let mut values = [0u32; 26];
     values[1] = 1;
-    let mut n: usize = 2;
-    while n < past {
+    for n in 2..2 + net[NODES] as usize {
         values[n] = source_value(net[START + (n - 2)], p);
-        n += 1;
     }
     values
 }
@@ -80,13 +77,10 @@ pub fn values_after(net: &[u32], before: &[u32], pending: &[u32], time: u32, p: 
     requires { Laid (net_circuit net.now) net.now × Bits (net_circuit net.now) before.now × (length pending.now ≡ 26) }
     ensures { Filled 0 1 (λ (n : ℕ). arrived_at (net_circuit net.now) time p n (get_or before.now n 0) (get_or pending.now n 0)) (first_node_number + at_place net.now nodes_place) result }
 {
-    let past = 2 + net[NODES] as usize;
     let mut values = [0u32; 26];
     values[1] = 1;
-    let mut n: usize = 2;
-    while n < past {
+    for n in 2..2 + net[NODES] as usize {
         values[n] = value_after(net, time, p, n as u32, before[n], pending[n]);
-        n += 1;
     }
     values
 }

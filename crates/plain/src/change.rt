@@ -8,13 +8,13 @@ ghost use Rattle.net.specs.Net.{nodes_place};
 ghost use Rattle.plain.specs.Leaf.{sum_of, leaf_sum, leaf_delay, leaf_move, leaf_next, Gives};
 ghost use Rattle.plain.specs.Ready.{Noded, Ready};
 
+use crate::Sum;
 use crate::loads::node_load;
 use crate::reads::{NONE, read};
 use crate::sums::node_sum;
-use crate::{Next, Sum, Walked};
 use net::NODES;
 use net::quantities::horizon;
-use units::{Ohms, Picoseconds, Resistance, delay};
+use units::{AboveCeiling, Ohms, Picoseconds, Resistance, delay};
 
 // No next change.
 pub const NEVER: u32 = 4294967295;
@@ -79,7 +79,7 @@ pub fn new_value(sum: Sum, present: u32) -> u32
 }
 
 // The sum of the node that a walk is for.
-fn sum_at(net: &[u32], leaf: &[u32], n: u32) -> Walked
+fn sum_at(net: &[u32], leaf: &[u32], n: u32) -> Result<Sum, AboveCeiling>
     requires ready { Ready net.now leaf.now }
     requires n_bound { n < 2 + get_or net.now nodes_place 0 }
     ensures { Gives result (leaf_sum net.now leaf.now (get_or net.now nodes_place 0) none n) }
@@ -150,14 +150,17 @@ fn change_to(net: &[u32], leaf: &[u32], sum: Sum, time: u32, pending: u32, n: u3
 }
 
 // The next change of node n, or that its walk exceeds the ceiling.
-pub fn next_change(net: &[u32], leaf: &[u32], time: u32, pending: u32, n: u32) -> Next
+pub fn next_change(
+    net: &[u32],
+    leaf: &[u32],
+    time: u32,
+    pending: u32,
+    n: u32,
+) -> Result<u32, AboveCeiling>
     requires ready { Ready net.now leaf.now }
     requires noded { Noded net.now n }
     ensures { result ≡ leaf_next net.now leaf.now time pending n }
 {
-    let walked = sum_at(net, leaf, n);
-    match walked {
-        Walked::Exceeds => Next::Exceeds,
-        Walked::Within(sum) => Next::At(change_to(net, leaf, sum, time, pending, n)),
-    }
+    let sum = sum_at(net, leaf, n)?;
+    Ok(change_to(net, leaf, sum, time, pending, n))
 }

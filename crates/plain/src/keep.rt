@@ -48,22 +48,13 @@ fn join_ends(net: &[u32], labels: &mut [u32], i: u32)
     }
 }
 
-fn bit(b: bool) -> u32
-    ensures { result ≡ cond b 1 0 }
-{
-    if b {
-        return 1;
-    }
-    0
-}
-
 fn keep_one(net: &[u32], values: &[u32], leaf: &mut [u32], labels: &mut [u32], i: u32)
     requires laid { Laid (net_circuit net.now) net.now }
     requires values_len { (length values.now ≡ 26) × (length leaf.old ≡ leaf_length) × (length labels.old ≡ 26) × (i < get_or net.now transistors_place 0) }
     ensures { OneKept (net_circuit net.now) values.now i (net_transistor net.now i) leaf.old leaf.new labels.old labels.new }
 {
     let keep = keeps(net, values, labels, i);
-    leaf[KEPT + i as usize] = bit(keep);
+    leaf[KEPT + i as usize] = u32::from(keep);
     if keep {
         join_ends(net, labels, i);
     }
@@ -73,11 +64,7 @@ fn copy(leaf: &mut [u32], values: &[u32])
     requires { (length leaf.old ≡ leaf_length) × (length values.now ≡ 26) }
     ensures { Row 0 26 (λ (n : ℕ). get_or values.now n 0) leaf.old leaf.new }
 {
-    let mut n: usize = 0;
-    while n < VALUES {
-        leaf[n] = values[n];
-        n += 1;
-    }
+    leaf[..VALUES].copy_from_slice(values);
 }
 
 fn keep_all(net: &[u32], values: &[u32], leaf: &mut [u32], labels: &mut [u32])
@@ -85,11 +72,8 @@ fn keep_all(net: &[u32], values: &[u32], leaf: &mut [u32], labels: &mut [u32])
     requires column { Column values.now × (length leaf.old ≡ leaf_length) × (length labels.old ≡ 26) × ((n : ℕ) → n < 26 → get_or labels.old n 0 ≡ n) }
     ensures { KeptTo (net_circuit net.now) values.now (get_or net.now transistors_place 0) leaf.old leaf.new labels.new }
 {
-    let count = net[net::TRANSISTORS];
-    let mut i: u32 = 0;
-    while i < count {
+    for i in 0..net[net::TRANSISTORS] {
         keep_one(net, values, leaf, labels, i);
-        i += 1;
     }
 }
 

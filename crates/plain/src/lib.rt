@@ -27,20 +27,6 @@ pub struct Sum {
     pub lowered: Femtofarads,
 }
 
-// What the walk of a node sum gives: the sum, or that an arm on the way exceeds the ceiling.
-#[derive(Clone, Copy)]
-pub enum Walked {
-    Within(Sum),
-    Exceeds,
-}
-
-// The next change of a reconsidered node, or that its walk exceeds the ceiling.
-#[derive(Clone, Copy)]
-pub enum Next {
-    At(u32),
-    Exceeds,
-}
-
 // The resistance to a new value, and the charge that has to move.
 #[derive(Clone, Copy)]
 pub struct Load {
@@ -61,11 +47,4 @@ pub struct Kept {
 pub struct State {
     pub values: [u32; 26],
     pub changes: [u32; 26],
-}
-
-// One pattern after its start or a step; where that exceeds the ceiling, the state is of no account.
-#[derive(Clone, Copy)]
-pub struct Outcome {
-    pub exceeds: bool,
-    pub state: State,
 }

@@ -48,7 +48,7 @@ fn own_load(net: &[u32], leaf: &[u32], new: u32, n: u32) -> Load
     }
     Load {
         resistance: Resistance::Infinite,
-        charge: charge,
+        charge,
     }
 }
 
@@ -60,13 +60,9 @@ fn before_load(net: &[u32], i: u32, far: Load) -> Load
     ensures { load_of result ≡ load_arm (net_transistor net.now i) (load_of far) }
 {
     let r = resistance(net, i);
-    let behind = far.resistance;
-    let charge = far.charge;
-    let through = delay_arm(r, behind);
-    let shared = share(r, behind, charge);
     Load {
-        resistance: through,
-        charge: shared,
+        resistance: delay_arm(r, far.resistance),
+        charge: share(r, far.resistance, far.charge),
     }
 }
 
@@ -74,15 +70,9 @@ fn join_loads(a: Load, b: Load) -> Load
     requires { JoinableLoads (load_of a) (load_of b) }
     ensures { load_of result ≡ join_loads (load_of a) (load_of b) }
 {
-    let ar = a.resistance;
-    let br = b.resistance;
-    let resistance = ar.parallel(br);
-    let ac = a.charge;
-    let bc = b.charge;
-    let charge = ac.joined(bc);
     Load {
-        resistance: resistance,
-        charge: charge,
+        resistance: a.resistance.parallel(b.resistance),
+        charge: a.charge.joined(b.charge),
     }
 }
 
@@ -145,15 +135,11 @@ pub fn node_load(
     if allowance == 0 {
         return load;
     }
-    let degree = degree_of(net, n);
-    let mut k: u32 = 0;
-    while k < degree {
+    for k in 0..degree_of(net, n) {
         let i = arm_at(net, n, k);
         if is_arm(leaf, from, i) {
-            let one = load_arm(net, leaf, allowance - 1, sharing, new, i, n);
-            load = join_loads(load, one);
+            load = join_loads(load, load_arm(net, leaf, allowance - 1, sharing, new, i, n));
         }
-        k += 1;
     }
     load
 }

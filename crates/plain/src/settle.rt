@@ -10,23 +10,20 @@ ghost use Rattle.plain.specs.Shown.{Shows};
 ghost use Rattle.plain.specs.Leaves.{KeptLeaf, Parted};
 ghost use Rattle.plain.specs.Settle.{pending_after, considers, change_between, Between};
 
-use crate::Next;
 use crate::change::{NEVER, next_change};
 use crate::keep::kept;
 use crate::touch::touched;
 use net::inner::is_inner;
+use units::AboveCeiling;
 
 // The number that stands for a walk that exceeds the ceiling: no next change is 0.
 pub const EXCEEDED: u32 = 0;
 
 // A next change, or that number.
-fn as_number(next: Next) -> u32
+fn as_number(next: Result<u32, AboveCeiling>) -> u32
     ensures { result ≡ number_of next }
 {
-    match next {
-        Next::At(time) => time,
-        Next::Exceeds => EXCEEDED,
-    }
+    next.unwrap_or(EXCEEDED)
 }
 
 // The pending change once T has happened.

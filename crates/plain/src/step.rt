@@ -10,12 +10,13 @@ ghost use Rattle.plain.specs.Settle.{change_between, Between, Showing};
 ghost use Rattle.plain.specs.Exceeded.{any_exceeded};
 ghost use Rattle.plain.specs.Pattern.{shown, shown_by, Bits, NoneExceeded, Filled, Goes};
 
+use crate::State;
 use crate::arrive::{sources, values_after};
 use crate::change::NEVER;
 use crate::keep::kept;
 use crate::settle::{EXCEEDED, change_by};
-use crate::{Outcome, State};
 use net::NODES;
+use units::AboveCeiling;
 
 // The next changes of all nodes between these values, 0 where a walk exceeds.
 fn changes_after(
@@ -32,14 +33,11 @@ fn changes_after(
     let parts = kept(net, after);
     let leaf = parts.leaf;
     let labels = parts.labels;
-    let past = 2 + net[NODES] as usize;
     let mut changes = [NEVER; 26];
-    let mut n: usize = 2;
-    while n < past {
+    for n in 2..2 + net[NODES] as usize {
         changes[n] = change_by(
             net, &leaf, &labels, before, after, pending[n], time, all, n as u32,
         );
-        n += 1;
     }
     changes
 }
@@ -50,33 +48,25 @@ fn any_exceeded(net: &[u32], changes: &[u32]) -> bool
     ensures { (values : List ℕ) → result ≡ any_exceeded (net_circuit net.now) (shown_by (net_circuit net.now) values changes.now) }
 {
     let past = 2 + net[NODES] as usize;
-    let mut n: usize = 2;
-    while n < past {
-        if changes[n] == EXCEEDED {
-            return true;
-        }
-        n += 1;
-    }
-    false
+    changes[2..past].contains(&EXCEEDED)
 }
 
 // The start of pattern p.
-pub fn start(net: &[u32], p: u32) -> Outcome
+pub fn start(net: &[u32], p: u32) -> Result<State, AboveCeiling>
     requires { Laid (net_circuit net.now) net.now }
     ensures { Goes (net_circuit net.now) (start_exceeds (net_circuit net.now) p) (started (net_circuit net.now) p) result }
 {
     let values = sources(net, p);
     let rest = [NEVER; 26];
     let changes = changes_after(net, &values, &values, &rest, 0, true);
-    let exceeds = any_exceeded(net, &changes);
-    Outcome {
-        exceeds,
-        state: State { values, changes },
+    if any_exceeded(net, &changes) {
+        return Err(AboveCeiling);
     }
+    Ok(State { values, changes })
 }
 
 // The step of pattern p to a time.
-pub fn step(net: &[u32], s: State, time: u32, p: u32) -> Outcome
+pub fn step(net: &[u32], s: State, time: u32, p: u32) -> Result<State, AboveCeiling>
     requires { Laid (net_circuit net.now) net.now × Bits (net_circuit net.now) s.values × NoneExceeded (net_circuit net.now) s.changes }
     ensures { Goes (net_circuit net.now) (step_exceeds (net_circuit net.now) time p (shown (net_circuit net.now) s)) (stepped (net_circuit net.now) time p (shown (net_circuit net.now) s)) result }
 {
@@ -84,9 +74,8 @@ pub fn step(net: &[u32], s: State, time: u32, p: u32) -> Outcome
     let pending = s.changes;
     let values = values_after(net, &old, &pending, time, p);
     let changes = changes_after(net, &old, &values, &pending, time, false);
-    let exceeds = any_exceeded(net, &changes);
-    Outcome {
-        exceeds,
-        state: State { values, changes },
+    if any_exceeded(net, &changes) {
+        return Err(AboveCeiling);
     }
+    Ok(State { values, changes })
 }

@@ -12,18 +12,12 @@ use crate::change::NEVER;
 use net::quantities::entry_time;
 use net::{ENTRIES, NODES};
 
-fn earlier(a: u32, b: u32) -> u32
-    ensures { result ≡ min a b }
-{
-    if a < b { a } else { b }
-}
-
 // The earlier of a time, where it is after the present one, and of another.
 fn sooner(present: u32, time: u32, other: u32) -> u32
     ensures { result ≡ min (cond (ltb present time) time never) other }
 {
     if present < time {
-        return earlier(time, other);
+        return time.min(other);
     }
     other
 }
@@ -33,10 +27,8 @@ fn soonest_change(net: &[u32], changes: &[u32], present: u32) -> u32
     requires { Laid (net_circuit net.now) net.now × (length changes.now ≡ 26) }
     ensures { result ≡ soonest present (of_nodes (net_circuit net.now) changes.now) }
 {
-    let mut n = 2 + net[NODES] as usize;
     let mut first = NEVER;
-    while 2 < n {
-        n -= 1;
+    for n in (2..2 + net[NODES] as usize).rev() {
         first = sooner(present, changes[n], first);
     }
     first
@@ -47,10 +39,8 @@ fn soonest_entry(net: &[u32], present: u32) -> u32
     requires { Laid (net_circuit net.now) net.now }
     ensures { result ≡ soonest present (map (λ (e : Entry). e.time.0) (net_circuit net.now).schedule) }
 {
-    let mut i = net[ENTRIES] as usize;
     let mut first = NEVER;
-    while 0 < i {
-        i -= 1;
+    for i in (0..net[ENTRIES] as usize).rev() {
         let at = entry_time(net, i);
         first = sooner(present, at.0 as u32, first);
     }
@@ -65,5 +55,5 @@ pub fn next_time(net: &[u32], s: State, present: u32) -> u32
     let changes = s.changes;
     let pending = soonest_change(net, &changes, present);
     let scheduled = soonest_entry(net, present);
-    earlier(pending, scheduled)
+    pending.min(scheduled)
 }

@@ -70,13 +70,10 @@ pub fn touched(net: &[u32], labels: &[u32], before: &[u32], after: &[u32], n: u3
     if !is_inner(net, n) {
         return false;
     }
-    let count = net[net::TRANSISTORS];
-    let mut i: u32 = 0;
-    while i < count {
+    for i in 0..net[net::TRANSISTORS] {
         if of_piece(net, labels, n, i) & disturbed(net, before, after, i) {
             return true;
         }
-        i += 1;
     }
     false
 }

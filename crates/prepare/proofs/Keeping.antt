@@ -311,8 +311,7 @@ pub keeping_done : {c : Circuit} {nodes letters : ℕ} {t : Table} {values activ
 keeping_done s le = record { opened = s.opened; extends = s.extends; kept_used = s.kept_used; kept_is = λ i p z hi hp shows. s.kept_is i p z (omega arith) hp shows }
 
 -- the loop over the transistors
-pub record Going (c : Circuit) (nodes letters : ℕ) (t : Table) (values active : List ℕ) (count : ℕ) (l0 w0 h0 ix0 l w h ix : List ℕ) (used : ℕ) (out : List ℕ) (joined : List (List ℕ)) (i : ℕ) : Type 0 where
-  pub few : i ≤ count
+pub record Going (c : Circuit) (nodes letters : ℕ) (t : Table) (values active : List ℕ) (l0 w0 h0 ix0 l w h ix : List ℕ) (used : ℕ) (out : List ℕ) (joined : List (List ℕ)) (i : ℕ) : Type 0 where
   pub long : length out ≡ 64
   pub letter_long : length l ≡ length l0
   pub low_long : length w ≡ length w0
@@ -320,10 +319,9 @@ pub record Going (c : Circuit) (nodes letters : ℕ) (t : Table) (values active 
   pub index_long : length ix ≡ length ix0
   pub keeping : Keeping c nodes letters t values active i l w h ix used out joined
 
-pub going_first : {c : Circuit} {nodes letters : ℕ} {l w h ix : List ℕ} {used : ℕ} {values active : List ℕ} {count : ℕ} {out : List ℕ} {joined : List (List ℕ)} → Open letters l w h ix used → length out ≡ 64
-    → ((i : ℕ) → i < 64 → get_or out i 0 ≡ 0) → ((x y : ℕ) → x < 24 → y < 24 → cell joined x y ≡ bit (eqb x y)) → Going c nodes letters (held l w h used) values active count l w h ix l w h ix used out joined 0
+pub going_first : {c : Circuit} {nodes letters : ℕ} {l w h ix : List ℕ} {used : ℕ} {values active : List ℕ} {out : List ℕ} {joined : List (List ℕ)} → Open letters l w h ix used → length out ≡ 64
+    → ((i : ℕ) → i < 64 → get_or out i 0 ≡ 0) → ((x y : ℕ) → x < 24 → y < 24 → cell joined x y ≡ bit (eqb x y)) → Going c nodes letters (held l w h used) values active l w h ix l w h ix used out joined 0
 going_first o long zeros first = record {
-  few = omega arith;
   long = long;
   letter_long = refl;
   low_long = refl;
@@ -357,17 +355,16 @@ module _ (net : List ℕ) (k : Laid (net_circuit net) net) (i : ℕ) (h : i < at
       by false ea true eb = subst (λ (z : ℕ). z < 26) (laid_by_second net k i h ea eb).0 (laid_by_second net k i h ea eb).1
       by false ea false eb = subst (λ (z : ℕ). z < 26) (laid_no_group net k i h ea eb) (omega arith)
 
-pub going_next : {c : Circuit} {nodes letters : ℕ} {l0 w0 h0 ix0 : List ℕ} {used0 : ℕ} {values active : List ℕ} {count i : ℕ} {l w h ix : List ℕ} {used : ℕ} {out : List ℕ} {joined : List (List ℕ)}
+pub going_next : {c : Circuit} {nodes letters : ℕ} {l0 w0 h0 ix0 : List ℕ} {used0 : ℕ} {values active : List ℕ} {i : ℕ} {l w h ix : List ℕ} {used : ℕ} {out : List ℕ} {joined : List (List ℕ)}
     (o : Open letters l0 w0 h0 ix0 used0) (hv : AllUsed 26 values used0) (ht : AllUsed 26 active used0) (bits : Bits letters (held l0 w0 h0 used0) values (2 + nodes)) (few : nodes ≤ 24)
-    (s : Going c nodes letters (held l0 w0 h0 used0) values active count l0 w0 h0 ix0 l w h ix used out joined i)
+    (s : Going c nodes letters (held l0 w0 h0 used0) values active l0 w0 h0 ix0 l w h ix used out joined i)
     (t : Transistor) (te : transistor_at c i ≡ t) (legal : Legal c nodes t) (small : group_of c t < 26) {l1 w1 h1 ix1 : List ℕ} {p : Put}
     (g : Grown letters (held l w h used) (λ x. kept_number t.polarity (between_inner c t) (number_at letters (held l w h used) (get_or active (group_of c t) 0) x) (number_at letters (held l w h used) (get_or values t.gate 0) x) (number_at letters (held l w h used) (cell joined (t.first - 2) (t.second - 2)) x)) l1 w1 h1 ix1 p) (room : stopped p.stop ≡ false)
     {l2 w2 h2 ix2 : List ℕ} {used2 : ℕ} {next : List (List ℕ)}
     (m : Matrixed letters (held l1 w1 h1 p.used) (λ a b x. cond (between_inner c t) (linked_number (number_at letters (held l1 w1 h1 p.used) p.entry x) (number_at letters (held l1 w1 h1 p.used) (cell joined a b) x) (number_at letters (held l1 w1 h1 p.used) (cell joined a (t.first - 2)) x) (number_at letters (held l1 w1 h1 p.used) (cell joined (t.second - 2) b) x) (number_at letters (held l1 w1 h1 p.used) (cell joined a (t.second - 2)) x) (number_at letters (held l1 w1 h1 p.used) (cell joined (t.first - 2) b) x)) (number_at letters (held l1 w1 h1 p.used) (cell joined a b) x)) l2 w2 h2 ix2 used2 next)
-    → i < count → i < 64 → length l2 ≡ length l → length w2 ≡ length w → length h2 ≡ length h → length ix2 ≡ length ix
-    → Going c nodes letters (held l0 w0 h0 used0) values active count l0 w0 h0 ix0 l2 w2 h2 ix2 used2 (set out i p.entry) next (i + 1)
-going_next {i = i} {out = out} o hv ht bits few s t te legal small {p = p} g room m lt hi a b c d = record {
-  few = omega arith;
+    → i < 64 → length l2 ≡ length l → length w2 ≡ length w → length h2 ≡ length h → length ix2 ≡ length ix
+    → Going c nodes letters (held l0 w0 h0 used0) values active l0 w0 h0 ix0 l2 w2 h2 ix2 used2 (set out i p.entry) next (i + 1)
+going_next {i = i} {out = out} o hv ht bits few s t te legal small {p = p} g room m hi a b c d = record {
   long = length-set out i p.entry ∙ s.long;
   letter_long = a ∙ s.letter_long;
   low_long = b ∙ s.low_long;
@@ -378,14 +375,12 @@ going_next {i = i} {out = out} o hv ht bits few s t te legal small {p = p} g roo
 
 -- A loop down the diagonal: x places are 1, and the rows are as long as they were.
 pub record Diagonal (out : List (List ℕ)) (x : ℕ) : Type 0 where
-  pub few : x ≤ 24
   pub long : length out ≡ 24
   pub rows : (a : ℕ) → a < 24 → length (get_or out a []) ≡ 24
   pub cells : (a b : ℕ) → a < 24 → b < 24 → cell out a b ≡ bit (ltb a x && eqb a b)
 
 pub diagonal_first : {out : List (List ℕ)} → length out ≡ 24 → ((a : ℕ) → a < 24 → get_or out a [] ≡ replicate 24 0) → Diagonal out 0
 diagonal_first {out} long rows = record {
-  few = omega arith;
   long = long;
   rows = λ a ha. ap length (rows a ha) ∙ length-replicate {A = ℕ} 24 0;
   cells = λ a b ha hb. ap (λ (r : List ℕ). get_or r b 0) (rows a ha) ∙ get_or-replicate {A = ℕ} 24 b 0 0 hb ∙ sym (ap (λ (z : Bool). bit (z && eqb a b)) (le-ltb a 0 (omega arith)));
@@ -393,7 +388,6 @@ diagonal_first {out} long rows = record {
 
 pub diagonal_next : {out : List (List ℕ)} {x : ℕ} → Diagonal out x → x < 24 → Diagonal (set out x (set (get_or out x []) x 1)) (x + 1)
 diagonal_next {out} {x} s lt = record {
-  few = omega arith;
   long = length-set out x (set (get_or out x []) x 1) ∙ s.long;
   rows = λ a ha.
       ⊎_elim

@@ -3,7 +3,7 @@ use mathlib.Core.Path.{◌≡◌, refl, sym, ◌∙◌, ap, subst}
 use mathlib.Core.Logic.{⊎_elim}
 use mathlib.Core.List.{List}
 use mathlib.Core.Bool.{Bool, true, false, not, ◌&&◌, cond}
-use Prim.Native.Nat.{ℕ, ◌+◌, ◌-◌, ◌≤◌, ◌<◌}
+use Prim.Native.Nat.{ℕ, ◌+◌, ◌≤◌, ◌<◌}
 use native.Mathlib.Omega.{arith}
 use lib.ListN.{length, get_or, set, length-set}
 use lib.Seq.{get_or-set_same, get_or-set_other}
@@ -48,7 +48,6 @@ open_bit false b = refl
 
 -- the loop over the transistors
 pub record Resting (c : Circuit) (nodes letters : ℕ) (t : Table) (values active before : List ℕ) (from : ℕ) (l0 w0 h0 ix0 l w h ix : List ℕ) (used : ℕ) (out : List ℕ) (i : ℕ) : Type 0 where
-  pub least : from ≤ i
   pub long : length out ≡ 64
   pub letter_long : length l ≡ length l0
   pub low_long : length w ≡ length w0
@@ -59,7 +58,6 @@ pub record Resting (c : Circuit) (nodes letters : ℕ) (t : Table) (values activ
 pub resting_first : {c : Circuit} {nodes letters : ℕ} {l w h ix : List ℕ} {used : ℕ} {values active kept : List ℕ} {from : ℕ} → Open letters l w h ix used → length kept ≡ 64 → AllUsed 64 kept used
     → Resting c nodes letters (held l w h used) values active kept from l w h ix l w h ix used kept from
 resting_first {l = l} {w} {h} {used = used} o long all = record {
-  least = omega arith;
   long = long;
   letter_long = refl;
   low_long = refl;
@@ -91,7 +89,7 @@ module _ {c : Circuit} {nodes letters : ℕ} {l0 w0 h0 ix0 : List ℕ} {used0 : 
       ∙ open_bit (eqb (get_or active (group_of c t) 0) 0) (conducts z t)
       ∙ ap (λ (u : Transistor). bit (not (eqb (get_or active (group_of c u) 0) 0) && conducts z u)) (sym te)
 
-  module _ (hi : i < 64) where
+  module _ (le : from ≤ i) (hi : i < 64) where
     at_own : get_or (set out i p.entry) i 0 ≡ p.entry
     at_own = get_or-set_same out i p.entry 0 (omega (arith, s.long))
 
@@ -107,16 +105,15 @@ module _ {c : Circuit} {nodes letters : ℕ} {l0 w0 h0 ix0 : List ℕ} {used0 : 
 
     rest_open : (j x : ℕ) (z : State) → from ≤ j → j < i + 1 → x < patterns letters → Shows letters (held l0 w0 h0 used0) values nodes x z
         → number_at letters then (get_or (set out i p.entry) j 0) x ≡ bit (is_open c z active j)
-    rest_open j x z le lt hx shows =
+    rest_open j x z low lt hx shows =
         ⊎_elim
         (λ (q : j ≡ i). rw (q, at_own) (own_number x z hx shows))
-        (λ (q : j ≡ i → ⊥). rw (at_other j q) (grown_number r.opened g room (get_or out j 0) x (r.kept_used j (omega (arith, lt, hi))) ∙ r.open_is j x z le (omega (arith, lt, q)) hx shows))
+        (λ (q : j ≡ i → ⊥). rw (at_other j q) (grown_number r.opened g room (get_or out j 0) x (r.kept_used j (omega (arith, lt, hi))) ∙ r.open_is j x z low (omega (arith, lt, q)) hx shows))
         (eq_or_ne j i)
 
     pub resting_next : length l1 ≡ length l → length w1 ≡ length w → length h1 ≡ length h → length ix1 ≡ length ix
         → Resting c nodes letters (held l0 w0 h0 used0) values active before from l0 w0 h0 ix0 l1 w1 h1 ix1 p.used (set out i p.entry) (i + 1)
     resting_next a b d e = record {
-      least = omega (arith, s.least);
       long = length-set out i p.entry ∙ s.long;
       letter_long = a ∙ s.letter_long;
       low_long = b ∙ s.low_long;
@@ -126,7 +123,7 @@ module _ {c : Circuit} {nodes letters : ℕ} {l0 w0 h0 ix0 : List ℕ} {used0 : 
         opened = g.opened room;
         extends = extends_trans r.extends (g.extends room);
         kept_used = rest_used;
-        same = λ j lt. at_other j (λ q. absurd (omega (arith, lt, s.least, q))) ∙ r.same j lt;
+        same = λ j lt. at_other j (λ q. absurd (omega (arith, lt, le, q))) ∙ r.same j lt;
         open_is = rest_open;
       };
     }

@@ -1,103 +1,121 @@
--- The roots in their places.
-use mathlib.Core.Path.{◌≡◌, refl, sym, ◌∙◌, subst}
+-- The roots in their places: lists copied into one of zeros.
+use Rattle.std.proofs.Common.{◌≡◌, ◌∙◌, ap, List, ℕ, ◌+◌, ◌-◌, ◌<◌, ◌≤◌, ◌++◌, length, get_or, take, drop, replicate, arith}
+use Rattle.std.proofs.lemmas.List.{length-take-le, length-append, length-drop, length-replicate, get_or-replicate, get_or-take, get_or-drop, get_or_append_left, get_or-append_right, get_or_past}
 use mathlib.Core.Logic.{⊎_elim}
-use mathlib.Core.List.{List}
-use Prim.Native.Nat.{ℕ, ◌+◌, ◌≤◌, ◌<◌}
-use native.Mathlib.Omega.{arith}
-use lib.ListN.{length, get_or, set, replicate, length-set, length-replicate, get_or-replicate, get_or-eq_default}
-use lib.Seq.{get_or-set_same, get_or-set_other}
-use Rattle.lists.proofs.Cases.{eq_or_ne, lt_or_ge}
+use borrow.Rule.Slice.PartMut.{put_mid}
+use Rattle.lists.proofs.Cases.{lt_or_ge}
 use Rattle.net.specs.Roots.{seeds_place, pending_place, all_roots_length}
 use Rattle.prepare.specs.Roots.{NodeRoots, KeptRoots}
 
--- three places written
-module _ (l : List ℕ) (a b c x y z : ℕ) where
-  three_rest : (j : ℕ) → (j ≡ a → ⊥) → (j ≡ b → ⊥) → (j ≡ c → ⊥) → get_or (set (set (set l a x) b y) c z) j 0 ≡ get_or l j 0
-  three_rest j na nb nc = get_or-set_other (set (set l a x) b y) c j z 0 nc ∙ get_or-set_other (set l a x) b j y 0 nb ∙ get_or-set_other l a j x 0 na
+-- k numbers copied into a list from place a on
+module _ (a k : ℕ) (xs ys : List ℕ) (long : length ys ≡ k) (room : a + k ≤ length xs) where
+  front : length (take a xs) ≡ a
+  front = length-take-le a xs (omega (arith, room))
 
-  three_first : a < length l → (a ≡ b → ⊥) → (a ≡ c → ⊥) → get_or (set (set (set l a x) b y) c z) a 0 ≡ x
-  three_first h nb nc = get_or-set_other (set (set l a x) b y) c a z 0 nc ∙ get_or-set_other (set l a x) b a y 0 nb ∙ get_or-set_same l a x 0 h
+  pub put_length : length (put_mid a k xs ys) ≡ length xs
+  put_length = omega (arith, room, long, front, length-append (take a xs) (ys ++ drop k (drop a xs)), length-append ys (drop k (drop a xs)), length-drop k (drop a xs), length-drop a xs)
 
-  three_second : b < length l → (b ≡ c → ⊥) → get_or (set (set (set l a x) b y) c z) b 0 ≡ y
-  three_second h nc = get_or-set_other (set (set l a x) b y) c b z 0 nc ∙ get_or-set_same (set l a x) b y 0 (simp length-set (omega arith))
+  pub put_below : (j : ℕ) → j < a → get_or (put_mid a k xs ys) j 0 ≡ get_or xs j 0
+  put_below j h = get_or_append_left (take a xs) (ys ++ drop k (drop a xs)) 0 j (omega (arith, front)) ∙ get_or-take a xs j 0 h
 
-  three_third : c < length l → get_or (set (set (set l a x) b y) c z) c 0 ≡ z
-  three_third h = get_or-set_same (set (set l a x) b y) c z 0 (simp length-set (omega arith))
+  pub put_within : (i j : ℕ) → j ≡ a + i → i < k → get_or (put_mid a k xs ys) j 0 ≡ get_or ys i 0
+  put_within i j e h =
+      let at : j - a ≡ i = omega arith in
+      get_or-append_right (take a xs) (ys ++ drop k (drop a xs)) a j 0 front (omega arith)
+      ∙ ap (λ (m : ℕ). get_or (ys ++ drop k (drop a xs)) m 0) at
+      ∙ get_or_append_left ys (drop k (drop a xs)) 0 i (omega (arith, long))
 
--- zeros all along, and past the end
-pub zeros_at : (n j : ℕ) → ◌≡◌ {A = ℕ} (get_or (replicate n 0) j 0) 0
-zeros_at n j = ⊎_elim (λ (h : j < n). get_or-replicate {A = ℕ} n j 0 0 h) (λ (h : n ≤ j). get_or-eq_default {A = ℕ} (replicate n 0) 0 (subst (λ (m : ℕ). m ≤ j) (sym (length-replicate {A = ℕ} n 0)) h)) (lt_or_ge j n)
+  pub put_past : (j : ℕ) → a + k ≤ j → get_or (put_mid a k xs ys) j 0 ≡ get_or xs j 0
+  put_past j h =
+      let at : a + (k + (j - a - k)) ≡ j = omega arith in
+      get_or-append_right (take a xs) (ys ++ drop k (drop a xs)) a j 0 front (omega arith)
+      ∙ get_or-append_right ys (drop k (drop a xs)) k (j - a) 0 long (omega arith)
+      ∙ get_or-drop k (drop a xs) (j - a - k) 0
+      ∙ get_or-drop a xs (k + (j - a - k)) 0
+      ∙ ap (λ (m : ℕ). get_or xs m 0) at
 
--- a loop over the nodes
-pub record Placing (values seeds waiting : List ℕ) (count n : ℕ) (roots : List ℕ) : Type 0 where
-  pub few : n ≤ count
-  pub long : length roots ≡ all_roots_length
-  pub placed : NodeRoots values seeds waiting n roots
-
-pub placing_first : {values seeds waiting : List ℕ} {count : ℕ} {roots : List ℕ} → length roots ≡ all_roots_length → ((j : ℕ) → get_or roots j 0 ≡ 0) → Placing values seeds waiting count 0 roots
-placing_first long zeros = record {
-  few = omega arith;
-  long = long;
-  placed = record { value_at_lem = λ n h. absurd (omega arith); seed_at = λ n h. absurd (omega arith); pending_at = λ n h. absurd (omega arith); rest_at = λ j _ _ _. zeros j };
+-- the kept functions behind the values
+pub kept_placed : {before kept ys : List ℕ} → length before ≡ all_roots_length → length kept ≡ 64 → ys ≡ kept → KeptRoots before kept 64 (put_mid 26 64 before ys)
+kept_placed {before} {kept} {ys} long all same = record {
+  kept_at = λ i h. put_within 26 64 before ys whole room i (26 + i) (omega arith) h ∙ ap (λ (xs : List ℕ). get_or xs i 0) same;
+  below_at = λ j h. put_below 26 64 before ys whole room j h;
+  above_at = λ j h. put_past 26 64 before ys whole room j h;
 }
+  where
+    whole : length ys ≡ 64
+    whole = ap (λ (xs : List ℕ). length xs) same ∙ all
 
-pub placing_next : {values seeds waiting : List ℕ} {count n : ℕ} {roots : List ℕ} → Placing values seeds waiting count n roots → n < count → count ≤ 26
-    → Placing values seeds waiting count (n + 1) (set (set (set roots n (get_or values n 0)) (seeds_place + n) (get_or seeds n 0)) (pending_place + n) (get_or waiting n 0))
-placing_next {values} {seeds} {waiting} {count} {n} {roots} s lt le = record {
-  few = omega arith;
-  long = simp length-set s.long;
-  placed = record {
-    value_at_lem = λ m hm.
-        ⊎_elim
-        (λ (q : m ≡ n). rw q (three_first roots n (seeds_place + n) (pending_place + n) _ _ _ (omega (arith, s.long)) (λ r. omega arith) (λ r. omega arith)))
-        (λ (ne : m ≡ n → ⊥). three_rest roots n (seeds_place + n) (pending_place + n) _ _ _ m ne (λ r. omega arith) (λ r. omega arith) ∙ s.placed.value_at_lem m (omega (arith, ne)))
-        (eq_or_ne m n);
-    seed_at = λ m hm.
-        ⊎_elim
-        (λ (q : m ≡ n). rw q (three_second roots n (seeds_place + n) (pending_place + n) _ _ _ (omega (arith, s.long)) (λ r. omega arith)))
-        (λ (ne : m ≡ n → ⊥). three_rest roots n (seeds_place + n) (pending_place + n) _ _ _ (seeds_place + m) (λ r. omega arith) (λ r. ne (omega arith)) (λ r. omega arith) ∙ s.placed.seed_at m (omega (arith, ne)))
-        (eq_or_ne m n);
-    pending_at = λ m hm.
-        ⊎_elim
-        (λ (q : m ≡ n). rw q (three_third roots n (seeds_place + n) (pending_place + n) _ _ _ (omega (arith, s.long))))
-        (λ (ne : m ≡ n → ⊥). three_rest roots n (seeds_place + n) (pending_place + n) _ _ _ (pending_place + m) (λ r. omega arith) (λ r. omega arith) (λ r. ne (omega arith)) ∙ s.placed.pending_at m (omega (arith, ne)))
-        (eq_or_ne m n);
-    rest_at = λ j p q r.
-        three_rest roots n (seeds_place + n) (pending_place + n) _ _ _ j (λ z. absurd (omega (arith, p (omega arith)))) (λ z. absurd (omega (arith, q (omega arith) (omega arith)))) (λ z. absurd (omega (arith, r (omega arith))))
-        ∙ s.placed.rest_at j (λ h. omega (arith, p h)) (λ h g. omega (arith, q h g)) (λ h. omega (arith, r h));
-  };
-}
+    room : 26 + 64 ≤ length before
+    room = omega (arith, long)
 
-pub placing_done : {values seeds waiting : List ℕ} {count n more : ℕ} {roots : List ℕ} → Placing values seeds waiting count n roots → count ≤ n → count ≡ more → NodeRoots values seeds waiting more roots
-placing_done {count = count} {n} {more} s le e =
-    let z : n ≡ more = omega (arith, s.few) in
-    rw z at s.placed
+-- a list of zeros, and 0 past its end
+abbrev blank : List ℕ
+blank = replicate all_roots_length 0
 
--- a loop over the transistors
-pub record Keepers (before kept : List ℕ) (i : ℕ) (roots : List ℕ) : Type 0 where
-  pub few : i ≤ 64
-  pub long : length roots ≡ all_roots_length
-  pub placed : KeptRoots before kept i roots
+blank_length : length blank ≡ all_roots_length
+blank_length = length-replicate {A = ℕ} all_roots_length 0
 
-pub keepers_first : {before kept : List ℕ} → length before ≡ all_roots_length → Keepers before kept 0 before
-keepers_first long = record { few = omega arith; long = long; placed = record { kept_at = λ i h. absurd (omega arith); below_at = λ j h. refl; above_at = λ j h. refl } }
+blank_at : (j : ℕ) → get_or blank j 0 ≡ 0
+blank_at j = ⊎_elim (λ (h : j < all_roots_length). get_or-replicate all_roots_length j 0 0 h) (λ (h : all_roots_length ≤ j). get_or_past blank j 0 (omega (arith, blank_length))) (lt_or_ge j all_roots_length)
 
-pub keepers_next : {before kept roots : List ℕ} {i : ℕ} → Keepers before kept i roots → i < 64 → Keepers before kept (i + 1) (set roots (26 + i) (get_or kept i 0))
-keepers_next {before} {kept} {roots} {i} s lt = record {
-  few = omega arith;
-  long = length-set roots (26 + i) (get_or kept i 0) ∙ s.long;
-  placed = record {
-    kept_at = λ m hm.
-        ⊎_elim
-        (λ (q : m ≡ i). rw q (get_or-set_same roots (26 + i) (get_or kept i 0) 0 (omega (arith, s.long))))
-        (λ (ne : m ≡ i → ⊥). get_or-set_other roots (26 + i) (26 + m) (get_or kept i 0) 0 (λ r. ne (omega arith)) ∙ s.placed.kept_at m (omega (arith, ne)))
-        (eq_or_ne m i);
-    below_at = λ j h. get_or-set_other roots (26 + i) j (get_or kept i 0) 0 (λ r. omega arith) ∙ s.placed.below_at j h;
-    above_at = λ j h. get_or-set_other roots (26 + i) j (get_or kept i 0) 0 (λ r. omega arith) ∙ s.placed.above_at j (omega arith);
-  };
-}
+-- the first values of the nodes, and their seeds
+module _ (a b : List ℕ) (count k : ℕ) (a_long : length a ≡ count) (b_long : length b ≡ k) (ek : k ≡ count) (few : count ≤ 26) where
+  abbrev with_values : List ℕ
+  with_values = put_mid 0 count blank a
 
-pub keepers_done : {before kept roots : List ℕ} {i : ℕ} → Keepers before kept i roots → 64 ≤ i → KeptRoots before kept 64 roots
-keepers_done {i = i} s le =
-    let z : i ≡ 64 = omega (arith, s.few) in
-    rw z at s.placed
+  abbrev with_seeds : List ℕ
+  with_seeds = put_mid seeds_place k with_values b
+
+  room : 0 + count ≤ length blank
+  room = omega (arith, blank_length, few)
+
+  values_length : length with_values ≡ all_roots_length
+  values_length = put_length 0 count blank a a_long room ∙ blank_length
+
+  seeds_room : seeds_place + k ≤ length with_values
+  seeds_room = omega (arith, values_length, few, ek)
+
+  pub pending_room : pending_place + count ≤ length with_seeds
+  pending_room = omega (arith, put_length seeds_place k with_values b b_long seeds_room, values_length, few)
+
+  rest_blank : (j : ℕ) → count ≤ j → get_or with_values j 0 ≡ 0
+  rest_blank j h = put_past 0 count blank a a_long room j (omega arith) ∙ blank_at j
+
+-- and their next changes
+module _ (values seeds waiting a b d : List ℕ) (count k m : ℕ) (long : length values ≡ 26) (long_seeds : length seeds ≡ 26) (long_waiting : length waiting ≡ 26) (few : count ≤ 26) (ek : k ≡ count) (em : m ≡ count)
+    (ea : a ≡ take count values) (eb : b ≡ take count seeds) (ed : d ≡ take count waiting) where
+  taken : (xs ys : List ℕ) → length xs ≡ 26 → ys ≡ take count xs → length ys ≡ count
+  taken xs ys l e = ap (λ (zs : List ℕ). length zs) e ∙ length-take-le count xs (omega (arith, few, l))
+
+  same : (xs ys : List ℕ) (n : ℕ) → ys ≡ take count xs → n < count → get_or ys n 0 ≡ get_or xs n 0
+  same xs ys n e h = ap (λ (zs : List ℕ). get_or zs n 0) e ∙ get_or-take count xs n 0 h
+
+  pub nodes_placed : {more : ℕ} → count ≡ more → NodeRoots values seeds waiting more (put_mid pending_place m (put_mid seeds_place k (put_mid 0 count blank a) b) d)
+  nodes_placed {more} e =
+      let al : length a ≡ count = taken values a long ea in
+      let bl : length b ≡ k = omega (arith, taken seeds b long_seeds eb, ek) in
+      let dl : length d ≡ m = omega (arith, taken waiting d long_waiting ed, em) in
+      let one : List ℕ = put_mid 0 count blank a in
+      let two : List ℕ = put_mid seeds_place k one b in
+      let past : pending_place + m ≤ length two = omega (arith, pending_room a b count k al bl ek few, em) in
+      let here : seeds_place + k ≤ length one = seeds_room a b count k al bl ek few in
+      let start : 0 + count ≤ length blank = room a b count k al bl ek few in
+      let zero : (j : ℕ) → count ≤ j → get_or one j 0 ≡ 0 = rest_blank a b count k al bl ek few in
+      let below : (j : ℕ) → j < pending_place → get_or (put_mid pending_place m two d) j 0 ≡ get_or two j 0 = put_below pending_place m two d dl past in
+      record {
+        value_at_lem = λ n h. below n (omega (arith, few, e)) ∙ put_below seeds_place k one b bl here n (omega (arith, few, e)) ∙ put_within 0 count blank a al start n n (omega arith) (omega (arith, e)) ∙ same values a n ea (omega (arith, e));
+        seed_at = λ n h. below (seeds_place + n) (omega (arith, few, e)) ∙ put_within seeds_place k one b bl here n (seeds_place + n) (omega arith) (omega (arith, ek, e)) ∙ same seeds b n eb (omega (arith, e));
+        pending_at = λ n h. put_within pending_place m two d dl past n (pending_place + n) (omega arith) (omega (arith, em, e)) ∙ same waiting d n ed (omega (arith, e));
+        rest_at = λ j p q r.
+            ⊎_elim
+            (λ (h : j < seeds_place). below j (omega arith) ∙ put_below seeds_place k one b bl here j h ∙ zero j (beyond j p e))
+            (λ (h : seeds_place ≤ j).
+            ⊎_elim
+            (λ (g : j < pending_place). below j g ∙ put_past seeds_place k one b bl here j (omega (arith, q h g, ek, e)) ∙ zero j (omega (arith, few)))
+            (λ (g : pending_place ≤ j). put_past pending_place m two d dl past j (omega (arith, r g, em, e)) ∙ put_past seeds_place k one b bl here j (omega (arith, few, ek)) ∙ zero j (omega (arith, few)))
+            (lt_or_ge j pending_place))
+            (lt_or_ge j seeds_place);
+      }
+    where
+      beyond : {more : ℕ} (j : ℕ) → (j < 26 → more ≤ j) → count ≡ more → count ≤ j
+      beyond j p e = ⊎_elim (λ (h : j < 26). omega (arith, p h, e)) (λ (h : 26 ≤ j). omega (arith, few)) (lt_or_ge j 26)

@@ -150,8 +150,7 @@ abbrev armed : Circuit → (ℕ → Bool) → List ℕ → Bool
 armed c changed is = some (λ (i : ℕ). disturbed_by c changed (transistor_at c i)) is
 
 -- A loop over a node's arms: where one of the first j of them is disturbed.
-pub record Arming (c : Circuit) (arms : List ℕ) (letters : ℕ) (t : Table) (changed l0 w0 h0 ix0 l w h ix : List ℕ) (used z j count : ℕ) : Type 0 where
-  pub few : j ≤ count
+pub record Arming (c : Circuit) (arms : List ℕ) (letters : ℕ) (t : Table) (changed l0 w0 h0 ix0 l w h ix : List ℕ) (used z j : ℕ) : Type 0 where
   pub letter_long : length l ≡ length l0
   pub low_long : length w ≡ length w0
   pub high_long : length h ≡ length h0
@@ -161,12 +160,12 @@ pub record Arming (c : Circuit) (arms : List ℕ) (letters : ℕ) (t : Table) (c
   pub means : Means letters (held l w h used) z (λ p. bit (armed c (λ n. one letters t (get_or changed n 0) p) (take j arms)))
 
 -- none of them yet
-pub arming_first : {c : Circuit} {arms : List ℕ} {letters : ℕ} {changed l w h ix : List ℕ} {used count : ℕ} → Open letters l w h ix used → Arming c arms letters (held l w h used) changed l w h ix l w h ix used 0 0 count
+pub arming_first : {c : Circuit} {arms : List ℕ} {letters : ℕ} {changed l w h ix : List ℕ} {used : ℕ} → Open letters l w h ix used → Arming c arms letters (held l w h used) changed l w h ix l w h ix used 0 0
 unfolding some
-arming_first o = record { few = omega arith; letter_long = refl; low_long = refl; high_long = refl; index_long = refl; opened = o; extends = extends_refl _; means = means_zero o }
+arming_first o = record { letter_long = refl; low_long = refl; high_long = refl; index_long = refl; opened = o; extends = extends_refl _; means = means_zero o }
 
-module _ {c : Circuit} {arms : List ℕ} {letters : ℕ} {l0 w0 h0 ix0 : List ℕ} {used0 : ℕ} {changed l w h ix : List ℕ} {used z j count : ℕ}
-    (o : Open letters l0 w0 h0 ix0 used0) (s : Arming c arms letters (held l0 w0 h0 used0) changed l0 w0 h0 ix0 l w h ix used z j count) where
+module _ {c : Circuit} {arms : List ℕ} {letters : ℕ} {l0 w0 h0 ix0 : List ℕ} {used0 : ℕ} {changed l w h ix : List ℕ} {used z j : ℕ}
+    (o : Open letters l0 w0 h0 ix0 used0) (s : Arming c arms letters (held l0 w0 h0 used0) changed l0 w0 h0 ix0 l w h ix used z j) where
   abbrev t0 : Table
   t0 = held l0 w0 h0 used0
 
@@ -175,12 +174,11 @@ module _ {c : Circuit} {arms : List ℕ} {letters : ℕ} {l0 w0 h0 ix0 : List �
   arming_bit p hp = subst (λ (v : ℕ). v ≤ 1) (sym (s.means.number p hp)) (cond_le (armed c (λ n. one letters t0 (get_or changed n 0) p) (take j arms)))
 
   -- one arm more
-  pub arming_next : (i : ℕ) (t : Transistor) {l2 w2 h2 ix2 : List ℕ} {r : Put} → AllUsed 26 changed used0 → get_or arms j 0 ≡ i → transistor_at c i ≡ t → LegalTransistor (length c.nodes) t → length c.nodes ≤ 24 → j < length arms → j < count
+  pub arming_next : (i : ℕ) (t : Transistor) {l2 w2 h2 ix2 : List ℕ} {r : Put} → AllUsed 26 changed used0 → get_or arms j 0 ≡ i → transistor_at c i ≡ t → LegalTransistor (length c.nodes) t → length c.nodes ≤ 24 → j < length arms
       → Grown letters (held l w h used) (λ p. bit (one letters (held l w h used) z p || disturbed_by c (λ n. one letters (held l w h used) (get_or changed n 0) p) t)) l2 w2 h2 ix2 r → stopped r.stop ≡ false
       → length l2 ≡ length l → length w2 ≡ length w → length h2 ≡ length h → length ix2 ≡ length ix
-      → Arming c arms letters (held l0 w0 h0 used0) changed l0 w0 h0 ix0 l2 w2 h2 ix2 r.used r.entry (j + 1) count
-  arming_next i t hc ie te legal few hj lt q room a b cc d = record {
-    few = omega arith;
+      → Arming c arms letters (held l0 w0 h0 used0) changed l0 w0 h0 ix0 l2 w2 h2 ix2 r.used r.entry (j + 1)
+  arming_next i t hc ie te legal few hj q room a b cc d = record {
     letter_long = a ∙ s.letter_long;
     low_long = b ∙ s.low_long;
     high_long = cc ∙ s.high_long;
@@ -235,38 +233,37 @@ pub seed_not : {letters : ℕ} {l w h ix : List ℕ} {used : ℕ} (b : Bool) (f 
 seed_not b f e o = grown_same (grown_there o (means_zero o)) (λ p _. sym (ap (λ (x : Bool). bit (x && f p)) e))
 
 -- a loop over the nodes
-pub record Seeding (c : Circuit) (only count letters : ℕ) (t : Table) (changed l0 w0 h0 ix0 l w h ix : List ℕ) (used : ℕ) (out : List ℕ) (n : ℕ) : Type 0 where
-  pub filling : Filling 26 count letters t (λ m p. bit (is_considered c only m && seed_by c (λ i. one letters t (get_or changed i 0) p) m)) (λ m p. 0) l0 w0 h0 ix0 l w h ix used out n
+pub record Seeding (c : Circuit) (only letters : ℕ) (t : Table) (changed l0 w0 h0 ix0 l w h ix : List ℕ) (used : ℕ) (out : List ℕ) (n : ℕ) : Type 0 where
+  pub filling : Filling 26 letters t (λ m p. bit (is_considered c only m && seed_by c (λ i. one letters t (get_or changed i 0) p) m)) (λ m p. 0) l0 w0 h0 ix0 l w h ix used out n
 
-pub seeding_first : (c : Circuit) (only count : ℕ) {letters : ℕ} {changed l w h ix : List ℕ} {used : ℕ} {out : List ℕ} → Open letters l w h ix used → length out ≡ 26 → ((n : ℕ) → n < 26 → get_or out n 0 ≡ 0)
-    → Seeding c only count letters (held l w h used) changed l w h ix l w h ix used out 0
-seeding_first c only count {letters} {changed} {l} {w} {h} {ix} {used} o long zeros = record {
+pub seeding_first : (c : Circuit) (only : ℕ) {letters : ℕ} {changed l w h ix : List ℕ} {used : ℕ} {out : List ℕ} → Open letters l w h ix used → length out ≡ 26 → ((n : ℕ) → n < 26 → get_or out n 0 ≡ 0)
+    → Seeding c only letters (held l w h used) changed l w h ix l w h ix used out 0
+seeding_first c only {letters} {changed} {l} {w} {h} {ix} {used} o long zeros = record {
   filling =
-      filling_first count (λ m p. bit (is_considered c only m && seed_by c (λ i. one letters (held l w h used) (get_or changed i 0) p) m)) (λ m p. 0) o long
+      filling_first (λ m p. bit (is_considered c only m && seed_by c (λ i. one letters (held l w h used) (get_or changed i 0) p) m)) (λ m p. 0) o long
       (λ m hm. subst (λ (e : ℕ). Means letters (held l w h used) e (λ p. 0)) (sym (zeros m hm)) (means_zero o));
 }
 
 -- one node more
-pub seeding_next : {c : Circuit} {only count letters : ℕ} {changed l0 w0 h0 ix0 l w h ix : List ℕ} {used0 used : ℕ} {out : List ℕ} {n : ℕ} {l2 w2 h2 ix2 : List ℕ} {r : Put} → LegalCell c → length c.nodes ≤ 24 → Open letters l0 w0 h0 ix0 used0 → AllUsed 26 changed used0
-    → Seeding c only count letters (held l0 w0 h0 used0) changed l0 w0 h0 ix0 l w h ix used out n
-    → Grown letters (held l w h used) (λ p. bit (is_considered c only n && seed_by c (λ i. one letters (held l w h used) (get_or changed i 0) p) n)) l2 w2 h2 ix2 r → stopped r.stop ≡ false → n < count → count ≤ 26
+pub seeding_next : {c : Circuit} {only letters : ℕ} {changed l0 w0 h0 ix0 l w h ix : List ℕ} {used0 used : ℕ} {out : List ℕ} {n : ℕ} {l2 w2 h2 ix2 : List ℕ} {r : Put} → LegalCell c → length c.nodes ≤ 24 → Open letters l0 w0 h0 ix0 used0 → AllUsed 26 changed used0
+    → Seeding c only letters (held l0 w0 h0 used0) changed l0 w0 h0 ix0 l w h ix used out n
+    → Grown letters (held l w h used) (λ p. bit (is_considered c only n && seed_by c (λ i. one letters (held l w h used) (get_or changed i 0) p) n)) l2 w2 h2 ix2 r → stopped r.stop ≡ false → n < 26
     → length l2 ≡ length l → length w2 ≡ length w → length h2 ≡ length h → length ix2 ≡ length ix
-    → Seeding c only count letters (held l0 w0 h0 used0) changed l0 w0 h0 ix0 l2 w2 h2 ix2 r.used (set out n r.entry) (n + 1)
-seeding_next {c} {only} {count} {letters} {changed} {l0} {w0} {h0} {ix0} {l} {w} {h} {ix} {used0} {used} {n = n} legal few o hc s q room lt le a b cc d = record {
+    → Seeding c only letters (held l0 w0 h0 used0) changed l0 w0 h0 ix0 l2 w2 h2 ix2 r.used (set out n r.entry) (n + 1)
+seeding_next {c} {only} {letters} {changed} {l0} {w0} {h0} {ix0} {l} {w} {h} {ix} {used0} {used} {n = n} legal few o hc s q room lt a b cc d = record {
   filling =
       filling_next s.filling q room
       (λ p hp.
       ap (λ (x : Bool). bit (is_considered c only n && x))
       (seed_same c legal (λ i. one letters (held l w h used) (get_or changed i 0) p) (λ i. one letters (held l0 w0 h0 used0) (get_or changed i 0) p)
       (λ i hi. changed_one changed o hc s.filling.filled.opened s.filling.filled.extends i p (omega arith)) n))
-      lt le a b cc d;
+      lt a b cc d;
 }
 
 -- all of them
-pub seeding_done : {c : Circuit} {only count letters : ℕ} {t : Table} {changed l0 w0 h0 ix0 l w h ix : List ℕ} {used : ℕ} {out : List ℕ} {n more : ℕ} → Seeding c only count letters t changed l0 w0 h0 ix0 l w h ix used out n → count ≤ n → count ≡ more
+pub seeding_done : {c : Circuit} {only letters : ℕ} {t : Table} {changed l0 w0 h0 ix0 l w h ix : List ℕ} {used : ℕ} {out : List ℕ} {n more : ℕ} → Seeding c only letters t changed l0 w0 h0 ix0 l w h ix used out n → n ≡ more
     → Filled 26 letters t (λ m p. seed_number c more false only (λ i. one letters t (get_or changed i 0) p) m) l w h ix used out
-seeding_done {c} {only} {letters = letters} {t} {changed} s le same =
-    filled_same (filling_done s.filling le) (λ m p _ _. ap (λ (x : ℕ). cond (ltb m x) (bit (is_considered c only m && seed_by c (λ i. one letters t (get_or changed i 0) p) m)) 0) same)
+seeding_done s e = filling_done s.filling e
 
 -- entries 0 and 1 everywhere
 filled_bits : {letters : ℕ} {l w h ix : List ℕ} {used : ℕ} {entries : List ℕ} (f : ℕ → Bool) → Open letters l w h ix used → ((g : ℕ) → g < 26 → get_or entries g 0 ≡ bit (f g)) → Filled 26 letters (held l w h used) (λ g p. bit (f g)) l w h ix used entries
@@ -277,21 +274,18 @@ filled_bits {letters} {l} {w} {h} {ix} {used} {entries} f o same = record { open
     by false = is_zero (open_few o) (open_sound o)
 
 -- A loop that marks the considered nodes.
-pub record Marking (c : Circuit) (only count n : ℕ) (out : List ℕ) : Type 0 where
-  pub few : n ≤ count
+pub record Marking (c : Circuit) (only n : ℕ) (out : List ℕ) : Type 0 where
   pub long : length out ≡ 26
   pub marked : (j : ℕ) → j < 26 → get_or out j 0 ≡ cond (ltb j n) (bit (is_considered c only j)) 0
 
-pub marking_first : (c : Circuit) (only count : ℕ) {out : List ℕ} → length out ≡ 26 → ((j : ℕ) → j < 26 → get_or out j 0 ≡ 0) → Marking c only count 0 out
-marking_first c only count long zeros = record {
-  few = omega arith;
+pub marking_first : (c : Circuit) (only : ℕ) {out : List ℕ} → length out ≡ 26 → ((j : ℕ) → j < 26 → get_or out j 0 ≡ 0) → Marking c only 0 out
+marking_first c only long zeros = record {
   long = long;
   marked = λ j h. zeros j h ∙ sym (ap (λ (b : Bool). cond b (bit (is_considered c only j)) 0) (le-ltb j 0 (omega arith)));
 }
 
-pub marking_next : {c : Circuit} {only count n e : ℕ} {out : List ℕ} → Marking c only count n out → n < count → count ≤ 26 → e ≡ bit (is_considered c only n) → Marking c only count (n + 1) (set out n e)
-marking_next {c} {only} {count} {n} {e} {out} s lt le same = record {
-  few = omega arith;
+pub marking_next : {c : Circuit} {only n e : ℕ} {out : List ℕ} → Marking c only n out → n < 26 → e ≡ bit (is_considered c only n) → Marking c only (n + 1) (set out n e)
+marking_next {c} {only} {n} {e} {out} s lt same = record {
   long = length-set out n e ∙ s.long;
   marked = λ j h.
       ⊎_elim
@@ -300,8 +294,8 @@ marking_next {c} {only} {count} {n} {e} {out} s lt le same = record {
       (eq_or_ne j n);
 }
 
-pub marking_done : {c : Circuit} {only count n more : ℕ} {out : List ℕ} → Marking c only count n out → count ≤ n → count ≡ more → (j : ℕ) → j < 26 → get_or out j 0 ≡ cond (ltb j more) (bit (is_considered c only j)) 0
-marking_done {c} {only} {count} {n} {more} s le e j h = let z : n ≡ more = omega (arith, s.few) in s.marked j h ∙ ap (λ (x : ℕ). cond (ltb j x) (bit (is_considered c only j)) 0) z
+pub marking_done : {c : Circuit} {only n more : ℕ} {out : List ℕ} → Marking c only n out → n ≡ more → (j : ℕ) → j < 26 → get_or out j 0 ≡ cond (ltb j more) (bit (is_considered c only j)) 0
+marking_done {c} {only} s e j h = s.marked j h ∙ ap (λ (x : ℕ). cond (ltb j x) (bit (is_considered c only j)) 0) e
 
 -- seeds everywhere
 and_bit : (a b : Bool) → cond a (bit b) 0 ≡ bit (a && b)
@@ -345,17 +339,16 @@ module _ {letters : ℕ} {t0 : Table} (t : Table) (before after : List ℕ) (cou
       s.extends
 
 -- A loop that marks the groups of the nodes with another function than entry 0.
-pub record Activating (c : Circuit) (count : ℕ) (seeds : List ℕ) (n : ℕ) (out : List ℕ) : Type 0 where
-  pub few : n ≤ count
+pub record Activating (c : Circuit) (seeds : List ℕ) (n : ℕ) (out : List ℕ) : Type 0 where
   pub long : length out ≡ 26
   pub active : Active c n seeds out
 
-pub activating_first : (c : Circuit) (count : ℕ) (seeds : List ℕ) {out : List ℕ} → length out ≡ 26 → ((g : ℕ) → g < 26 → get_or out g 0 ≡ 0) → Activating c count seeds 0 out
-activating_first c count seeds long zeros = record { few = omega arith; long = long; active = record { bits = λ g h. omega (arith, zeros g h); marked = λ m h. absurd (omega arith) } }
+pub activating_first : (c : Circuit) (seeds : List ℕ) {out : List ℕ} → length out ≡ 26 → ((g : ℕ) → g < 26 → get_or out g 0 ≡ 0) → Activating c seeds 0 out
+activating_first c seeds long zeros = record { long = long; active = record { bits = λ g h. omega (arith, zeros g h); marked = λ m h. absurd (omega arith) } }
 
-pub activating_next : {c : Circuit} {count : ℕ} {seeds : List ℕ} {n g : ℕ} {out : List ℕ} → Activating c count seeds n out → n < count → g < 26 → (is_inner c n ≡ true → (get_or seeds n 0 ≡ 0 → ⊥) → g ≡ label_at (groups c) n)
-    → Activating c count seeds (n + 1) (set out g 1)
-activating_next {c} {count} {seeds} {n} {g} {out} s lt small is = record { few = omega arith; long = length-set out g 1 ∙ s.long; active = record { bits = bits; marked = marked } }
+pub activating_next : {c : Circuit} {seeds : List ℕ} {n g : ℕ} {out : List ℕ} → Activating c seeds n out → g < 26 → (is_inner c n ≡ true → (get_or seeds n 0 ≡ 0 → ⊥) → g ≡ label_at (groups c) n)
+    → Activating c seeds (n + 1) (set out g 1)
+activating_next {c} {seeds} {n} {g} {out} s small is = record { long = length-set out g 1 ∙ s.long; active = record { bits = bits; marked = marked } }
   where
     own : get_or (set out g 1) g 0 ≡ 1
     own = get_or-set_same out g 1 0 (omega (arith, s.long))
@@ -383,14 +376,14 @@ activating_next {c} {count} {seeds} {n} {g} {out} s lt small is = record { few =
         (eq_or_ne (label_at (groups c) m) g)
 
 -- 0 is no group's label
-pub activating_done : {c : Circuit} {count : ℕ} {seeds : List ℕ} {n more : ℕ} {out : List ℕ} → Activating c count seeds n out → count ≤ n → count ≡ more → ((m : ℕ) → m < more → is_inner c m ≡ true → 2 ≤ label_at (groups c) m)
+pub activating_done : {c : Circuit} {seeds : List ℕ} {n more : ℕ} {out : List ℕ} → Activating c seeds n out → n ≡ more → ((m : ℕ) → m < more → is_inner c m ≡ true → 2 ≤ label_at (groups c) m)
     → Active c more seeds (set out 0 0)
-activating_done {c} {count} {seeds} {n} {more} {out} s le e least = record {
+activating_done {c} {seeds} {n} {more} {out} s e least = record {
   bits = λ g h.
       ⊎_elim
       (λ (q : g ≡ 0). subst (λ (x : ℕ). get_or (set out 0 0) x 0 ≤ 1) (sym q) (omega (arith, get_or-set_same out 0 0 0 (omega (arith, s.long)))))
       (λ (ne : g ≡ 0 → ⊥). omega (arith, get_or-set_other out 0 g 0 0 ne, s.active.bits g h))
       (eq_or_ne g 0);
   marked = λ m h inner ne.
-      get_or-set_other out 0 (label_at (groups c) m) 0 0 (λ z. omega (arith, least m h inner)) ∙ s.active.marked m (omega (arith, s.few)) inner ne;
+      get_or-set_other out 0 (label_at (groups c) m) 0 0 (λ z. omega (arith, least m h inner)) ∙ s.active.marked m (omega (arith, e)) inner ne;
 }

@@ -135,10 +135,8 @@ fn identity() -> [[u32; 24]; 24]
     ensures { (x y : ℕ) → x < 24 → y < 24 → cell result x y ≡ bit (eqb x y) }
 {
     let mut out = [[0u32; 24]; 24];
-    let mut x = 0;
-    while x < 24 {
+    for x in 0..24 {
         out[x][x] = 1;
-        x += 1;
     }
     out
 }
@@ -163,8 +161,7 @@ pub fn keep_looped(
     let mut joined = identity();
     let mut out = [0u32; 64];
     let mut now = used;
-    let mut i: u32 = 0;
-    while i < count {
+    for i in 0..count {
         let p = keep(
             net, values, active, &joined, letter, low, high, index, now, k, i,
         );
@@ -198,7 +195,6 @@ pub fn keep_looped(
                 entries: out,
             };
         }
-        i += 1;
     }
     Kept {
         stop: Stop::Going,

@@ -20,7 +20,7 @@ pub mod keep;
 pub mod open;
 pub mod seeds;
 
-use net::roots::{ALL_ROOTS, KEPT, PENDING, SEEDS};
+use net::roots::{ALL_ROOTS, KEPT, LEAF, PENDING, SEEDS};
 use open::keep_all;
 use seeds::{active, seed_all};
 use table::{Stop, stopped};
@@ -58,13 +58,9 @@ fn node_roots(
 {
     let count = net[net::NODES] as usize + 2;
     let mut out = [0u32; ALL_ROOTS];
-    let mut n = 0;
-    while n < count {
-        out[n] = values[n];
-        out[SEEDS + n] = seeds[n];
-        out[PENDING + n] = waiting[n];
-        n += 1;
-    }
+    out[..count].copy_from_slice(&values[..count]);
+    out[SEEDS..SEEDS + count].copy_from_slice(&seeds[..count]);
+    out[PENDING..PENDING + count].copy_from_slice(&waiting[..count]);
     out
 }
 
@@ -73,11 +69,7 @@ fn kept_roots(roots: [u32; ALL_ROOTS], kept: [u32; 64]) -> [u32; ALL_ROOTS]
     ensures { KeptRoots roots kept 64 result }
 {
     let mut out = roots;
-    let mut i = 0;
-    while i < 64 {
-        out[KEPT + i] = kept[i];
-        i += 1;
-    }
+    out[KEPT..LEAF].copy_from_slice(&kept);
     out
 }
 

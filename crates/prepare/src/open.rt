@@ -66,8 +66,7 @@ fn keep_rest(
     let count = net[net::TRANSISTORS];
     let mut out = kept;
     let mut now = used;
-    let mut i = from;
-    while i < count {
+    for i in from..count {
         let p = keep_open(net, values, active, letter, low, high, index, now, k, i);
         let why = p.stop;
         if stopped(why) {
@@ -79,7 +78,6 @@ fn keep_rest(
         }
         out[i as usize] = p.entry;
         now = p.used;
-        i += 1;
     }
     Kept {
         stop: Stop::Going,

@@ -112,8 +112,7 @@ fn seed_node(
     let count = net[net::DEGREE + at];
     let mut z = 0;
     let mut now = used;
-    let mut j: u32 = 0;
-    while j < count {
+    for j in 0..count {
         let i = net[net::ARMS + 64 * at + j as usize];
         let p = touch(net, changed, letter, low, high, index, now, k, i, z);
         let why = p.stop;
@@ -122,7 +121,6 @@ fn seed_node(
         }
         z = p.entry;
         now = p.used;
-        j += 1;
     }
     Put {
         stop: Stop::Going,
@@ -192,8 +190,7 @@ fn seed_nodes(
     let count = net[net::NODES] + 2;
     let mut out = [0u32; 26];
     let mut now = used;
-    let mut n: u32 = 0;
-    while n < count {
+    for n in 0..count {
         let p = seed_one(net, changed, letter, low, high, index, now, k, n, only);
         let why = p.stop;
         if stopped(why) {
@@ -205,7 +202,6 @@ fn seed_nodes(
         }
         out[n as usize] = p.entry;
         now = p.used;
-        n += 1;
     }
     Many {
         stop: Stop::Going,
@@ -221,10 +217,8 @@ fn every_node(net: &[u32], only: usize) -> [u32; 26]
 {
     let count = net[net::NODES] + 2;
     let mut out = [0u32; 26];
-    let mut n: u32 = 0;
-    while n < count {
+    for n in 0..count {
         out[n as usize] = considered_bit(net, only, n);
-        n += 1;
     }
     out
 }
@@ -293,11 +287,9 @@ pub fn active(net: &[u32], seeds: [u32; 26]) -> [u32; 26]
 {
     let count = net[net::NODES] + 2;
     let mut out = [0u32; 26];
-    let mut n: u32 = 0;
-    while n < count {
+    for n in 0..count {
         let g = active_label(net, seeds, n);
         out[g] = 1;
-        n += 1;
     }
     out[0] = 0;
     out

@@ -8,6 +8,9 @@ use native.Mathlib.Numerals.{add-one}
 use native.Mathlib.Omega.{arith}
 use lib.ListN.{length, get_or, take}
 use lib.Seq.{get_or-take, length-take-le}
+use Rattle.std.specs.List.{list_all}
+use Rattle.std.proofs.lemmas.List.{get_or_default}
+use Rattle.std.proofs.lemmas.List.Sums.{AllPass-from_list_all, list_all-from_AllPass}
 use Rattle.lists.specs.Tests.{below}
 use Rattle.lists.proofs.Cases.{bool_cases, and_both, true_false, bool_ext}
 use Rattle.lists.proofs.Below.{below_each, each_below}
@@ -47,3 +50,16 @@ every_below test n xs h =
     every_of test (take n xs) 0 (λ i l.
     let k : i < n = omega arith in
     rw (at i k) (below_each n (λ j. test (get_or xs j 0)) a i k)))
+
+-- the same of std's word
+pub all_below : (test : ℕ → Bool) (n : ℕ) (xs : List ℕ) → n ≤ length xs → list_all test (take n xs) ≡ below n (λ i. test (get_or xs i 0))
+all_below test n xs h =
+    let long : length (take n xs) ≡ n = length-take-le n xs h in
+    bool_ext (list_all test (take n xs)) (below n (λ i. test (get_or xs i 0)))
+    (λ a.
+    let passes = AllPass-from_list_all test (take n xs) a in
+    each_below n (λ i. test (get_or xs i 0)) (λ i l. subst (λ (x : ℕ). test x ≡ true) (get_or-take n xs i 0 l) (passes i 0 (omega arith))))
+    (λ a.
+    list_all-from_AllPass test (take n xs) (λ i d l.
+    let k : i < n = omega arith in
+    rw (get_or-take n xs i d k) (rw (get_or_default xs i d 0 (omega (arith, h))) (below_each n (λ j. test (get_or xs j 0)) a i k))))

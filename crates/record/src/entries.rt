@@ -9,7 +9,7 @@ use functions::numbers;
 fn among(after: u32, most: u32, other: u32, x: u32) -> bool
     ensures { result ≡ defined.among after most other x }
 {
-    (x == other) | ((after < x) & (x <= most))
+    x == other || after < x && x <= most
 }
 
 // Whether every number that entry `e` takes is after `after` and at most `most`, or is `other`.
@@ -31,10 +31,8 @@ fn all_among(
     if letter[i] == numbers::TERMINAL {
         return among(after, most, other, low[i]);
     }
-    if all_among(letter, low, high, used, k, low[i], after, most, other) {
-        return all_among(letter, low, high, used, k, high[i], after, most, other);
-    }
-    false
+    all_among(letter, low, high, used, k, low[i], after, most, other)
+        && all_among(letter, low, high, used, k, high[i], after, most, other)
 }
 
 // Whether `e` is an entry of the table, and every number that it takes is.
@@ -52,10 +50,7 @@ fn entry_among(
     requires { Legible k letter.now low.now high.now used }
     ensures { result ≡ defined.entry_among k (held letter.now low.now high.now used) after most other e }
 {
-    if e < used {
-        return all_among(letter, low, high, used, k, e, after, most, other);
-    }
-    false
+    e < used && all_among(letter, low, high, used, k, e, after, most, other)
 }
 
 // The same of the first `n` entries of an array.
@@ -74,13 +69,7 @@ pub fn entries_among(
     requires { Legible k letter.now low.now high.now used × (n ≤ 24) }
     ensures { result ≡ defined.entries_among k (held letter.now low.now high.now used) after most other entries n }
 {
-    let count = n as usize;
-    let mut i = 0;
-    while i < count {
-        if !entry_among(letter, low, high, used, k, entries[i], after, most, other) {
-            return false;
-        }
-        i += 1;
-    }
-    true
+    entries[..n as usize].iter().all(|e| entry_among(
+        letter, low, high, used, k, *e, after, most, other,
+    ))
 }

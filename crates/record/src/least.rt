@@ -44,11 +44,8 @@ pub fn fill(
     requires leasts { Leasts k (held letter.now low.now high.now used) done least.old }
     ensures { (length least.new ≡ length least.old) × Leasts k (held letter.now low.now high.now used) used least.new }
 {
-    let mut e = done;
-    while e < used {
-        let one = least_at(letter, low, high, used, k, least, e);
-        least[e as usize] = one;
-        e += 1;
+    for e in done..used {
+        least[e as usize] = least_at(letter, low, high, used, k, least, e);
     }
 }
 
@@ -57,13 +54,9 @@ pub fn least_among(least: &[u32], entries: [u32; 24], n: u32) -> u32
     requires { (n ≤ 24) × ((i : ℕ) → i < n → get_or entries i 0 < length least.now) }
     ensures { result ≡ least_listed least.now entries n }
 {
-    let count = n as usize;
     let mut all = numbers::NEVER;
-    let mut i = 0;
-    while i < count {
-        let e = entries[i] as usize;
-        all = numbers::least(all, least[e]);
-        i += 1;
+    for e in &entries[..n as usize] {
+        all = numbers::least(all, least[*e as usize]);
     }
     all
 }

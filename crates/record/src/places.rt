@@ -19,7 +19,7 @@ const NEVER_ENTRY: u32 = 2;
 fn rests(role: u32, e: u32) -> bool
     ensures { result ≡ (not (eqb role input) || eqb e never_entry) }
 {
-    (role != INPUT) | (e == NEVER_ENTRY)
+    role != INPUT || e == NEVER_ENTRY
 }
 
 // Whether every input has no next change.
@@ -27,13 +27,10 @@ pub fn inputs_rest(net: &[u32], changes: [u32; 24]) -> bool
     requires { Laid (net_circuit net.now) net.now }
     ensures { result ≡ below (at net.now nodes_place) (rests_at net.now changes) }
 {
-    let n = net[net::NODES] as usize;
-    let mut i = 0;
-    while i < n {
+    for i in 0..net[net::NODES] as usize {
         if !rests(net[net::ROLE + i], changes[i]) {
             return false;
         }
-        i += 1;
     }
     true
 }
@@ -55,12 +52,9 @@ pub fn scheduled_after(net: &[u32], present: u32) -> u32
     requires { Laid (net_circuit net.now) net.now }
     ensures { result ≡ scheduled_after net.now present }
 {
-    let n = net[net::ENTRIES] as usize;
     let mut earliest = numbers::NEVER;
-    let mut i = 0;
-    while i < n {
+    for i in 0..net[net::ENTRIES] as usize {
         earliest = numbers::least(earliest, after_now(present, entry_time(net, i)));
-        i += 1;
     }
     earliest
 }

@@ -1,12 +1,11 @@
 -- A loop that fills an array from the front.
-use mathlib.Core.Path.{◌≡◌, refl, sym, ◌∙◌, ap}
-use mathlib.Core.List.{List, [], ◌∷◌, ◌++◌, map, append_assoc}
-use Prim.Native.Nat.{ℕ, suc, ◌+◌, ◌-◌, ◌<◌, ◌≤◌}
-use native.Mathlib.Nat.{sub-zero}
+use mathlib.Core.Path.{◌≡◌, sym, ◌∙◌, ap}
+use mathlib.Core.List.{List, [], ◌∷◌, ◌++◌, map}
+use Prim.Native.Nat.{ℕ, ◌+◌, ◌<◌}
 use native.Mathlib.Numerals.{add-one}
 use native.Mathlib.Omega.{arith}
-use lib.ListN.{length, get_or, take, set, replicate, length-append, length-replicate, length-map, get_or-append}
-use lib.Seq.{take_at, take-suc, set_at, length-take-le}
+use lib.ListN.{length, get_or, take, set, replicate, length-map}
+use lib.Seq.{take-suc, length-take-le}
 use Rattle.lists.specs.Padded.{padded}
 use Rattle.lists.proofs.Map.{map_append}
 use Rattle.lists.proofs.Padded.{padded_none, padded_put}
@@ -21,8 +20,3 @@ module _ {A B : Type 0} (f : A → B) (m : ℕ) (d : B) (z : A) (l : List A) whe
       let e : length (map f (take k l)) ≡ k = length-map (take k l) f ∙ length-take-le k l (omega arith) in
       let more : map f (take k l) ++ f (get_or l k z) ∷ [] ≡ map f (take (k + 1) l) = rw (add-one, take-suc l k z, map_append) in
       rw (p, q) (padded_put m k d (f (get_or l k z)) (map f (take k l)) e h ∙ ap (padded m d) more)
-
-  pub filled_done : (n k : ℕ) (ys : List B) → ys ≡ padded m d (map f (take k l)) → k ≤ n → n ≤ k → ys ≡ padded m d (map f (take n l))
-  filled_done n k ys p h g =
-      let e : k ≡ n = omega arith in
-      rw (← e) p

@@ -1,3 +1,4 @@
+pub mod All
 pub mod Filled
 pub mod Zeros
 pub mod Linked

@@ -1,6 +1,6 @@
 -- Laws of chains: their records lie within the file, and a walk along a chain finds it.
 use mathlib.Core.Path.{◌≡◌, refl, sym, ◌∙◌, ap}
-use mathlib.Core.Bool.{Bool, true, false, ◌&&◌}
+use mathlib.Core.Bool.{true, false, ◌&&◌}
 use mathlib.Core.List.{List, [], ◌∷◌, ◌++◌}
 use mathlib.Core.Option.{Option, some, none}
 use Prim.Native.Nat.{ℕ, suc, ◌+◌, ◌-◌, ◌*◌, ◌<◌, ◌≤◌}
@@ -12,7 +12,7 @@ use borrow.Author.Tests.{eq-eqb, ne_eqb}
 use Rattle.format.specs.Legal.{within}
 use Rattle.format.specs.File.{kind_at, next_at, onto, chain}
 use Rattle.format.proofs.Chain.{chain_length, chain_member}
-use Rattle.records.specs.declared.Chain.{Chain}
+use Rattle.std.specs.Prelude.{Some, None}
 use Rattle.lists.specs.Padded.{padded}
 use Rattle.records.specs.Chain.{chain_found, Inside}
 use Rattle.lists.proofs.Padded.{padded_none, padded_first, padded_at, padded_put}
@@ -30,20 +30,20 @@ pub chain_take : (file : List ℕ) (count kind n r : ℕ) (rs : List ℕ) → ch
 chain_take file count kind n r rs e = padded_first 64 n 0 rs (chain_length file count kind n r rs e)
 
 -- what a chain's answer says of the chain
-pub chain_none : (o : Option (List ℕ)) (c : Chain) → c ≡ chain_found o → c.found ≡ false → o ≡ none
+pub chain_none : (o : Option (List ℕ)) → None ≡ chain_found o → o ≡ none
 unfolding chain_found
-chain_none none c e f = refl
-chain_none (some rs) c e f = absurd (let z : ◌≡◌ {A = Bool} true false = sym (ap (λ (d : Chain). d.found) e) ∙ f in let y : ◌≡◌ {A = ℕ} 0 1 = cc in omega arith)
+chain_none none e = refl
+chain_none (some rs) e = absurd (let z : ◌≡◌ {A = ℕ} 0 1 = cc in omega arith)
 
 pub record Found (o : Option (List ℕ)) (records : List ℕ) : Type 0 where
   pub chained : List ℕ
   pub some_chain : o ≡ some chained
   pub padded_chain : records ≡ padded 64 0 chained
 
-pub chain_some : (o : Option (List ℕ)) (c : Chain) → c ≡ chain_found o → c.found ≡ true → Found o c.records
+pub chain_some : (o : Option (List ℕ)) (records : List ℕ) → Some records ≡ chain_found o → Found o records
 unfolding chain_found
-chain_some none c e f = absurd (let z : ◌≡◌ {A = Bool} false true = sym (ap (λ (d : Chain). d.found) e) ∙ f in let y : ◌≡◌ {A = ℕ} 0 1 = cc in omega arith)
-chain_some (some rs) c e f = record { chained = rs; some_chain = refl; padded_chain = ap (λ (d : Chain). d.records) e }
+chain_some none records e = absurd (let z : ◌≡◌ {A = ℕ} 0 1 = cc in omega arith)
+chain_some (some rs) records e = record { chained = rs; some_chain = refl; padded_chain = cc }
 
 -- so the numbers that are answered lie within the file, and the first n of them are the chain
 module _ (file : List ℕ) (count kind n r : ℕ) (records : List ℕ) (f : Found (chain file count kind n r) records) where
@@ -93,21 +93,21 @@ module _ (file : List ℕ) (count kind n first : ℕ) where
           rest = w.rest ∙ rw (m, t, e) (ahead_snoc w.met r (chain file count kind (n - (k + 1)) (next_at file r)));
         }
 
-    pub walked_broken : k < n → (within 1 count r && eqb (kind_at file r) kind) ≡ false → record { found = false; records = replicate 64 0 } ≡ chain_found (chain file count kind n first)
+    pub walked_broken : k < n → (within 1 count r && eqb (kind_at file r) kind) ≡ false → None ≡ chain_found (chain file count kind n first)
     unfolding chain chain_found
     walked_broken h t =
         let m : n - k ≡ suc (n - (k + 1)) = omega arith in
         let e : chain file count kind n first ≡ none = w.rest ∙ rw (m, t) (ahead_none w.met) in
         rw e
 
-    pub walked_late : n ≤ k → (r ≡ 0 → ⊥) → record { found = false; records = replicate 64 0 } ≡ chain_found (chain file count kind n first)
+    pub walked_late : n ≤ k → (r ≡ 0 → ⊥) → None ≡ chain_found (chain file count kind n first)
     unfolding chain chain_found
     walked_late h t =
         let m : n - k ≡ 0 = omega arith in
         let e : chain file count kind n first ≡ none = w.rest ∙ rw (m, ne_eqb r 0 t) (ahead_none w.met) in
         rw e
 
-    pub walked_done : n ≤ k → r ≡ 0 → record { found = true; records = records } ≡ chain_found (chain file count kind n first)
+    pub walked_done : n ≤ k → r ≡ 0 → Some records ≡ chain_found (chain file count kind n first)
     unfolding chain chain_found
     walked_done h t =
         let m : n - k ≡ 0 = omega arith in

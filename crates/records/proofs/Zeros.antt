@@ -1,28 +1,11 @@
--- Laws of a run of zero bytes, seen from its place k.
-use mathlib.Core.Path.{◌≡◌}
-use mathlib.Core.Bool.{true, false}
-use mathlib.Core.List.{List}
-use Prim.Native.Nat.{ℕ, suc, ◌+◌, ◌-◌, ◌<◌, ◌≤◌}
-use native.Mathlib.Omega.{arith}
-use borrow.Author.Tests.{eq-eqb, ne_eqb}
-use Rattle.format.specs.File.{byte_at, zero_bytes}
+-- A run of zero bytes, as a test of each of them.
+use Rattle.std.proofs.Common.{◌≡◌, ℕ, zero, suc, ◌+◌, ◌≤◌, List, length, take, drop, eqb, refl, add-one, drop-cons, arith}
+use Rattle.format.specs.Circuit.{every}
+use Rattle.format.specs.File.{zero_bytes}
 
-module _ (file : List ℕ) (n i k : ℕ) where
-  pub zeros_none : n ≤ k → true ≡ zero_bytes file (n - k) (i + k)
-  unfolding zero_bytes
-  zeros_none h =
-      let s : n - k ≡ 0 = omega arith in
-      rw s
-
-  pub zeros_broken : k < n → (byte_at file (i + k) ≡ 0 → ⊥) → false ≡ zero_bytes file (n - k) (i + k)
-  unfolding zero_bytes
-  zeros_broken h ne =
-      let s : n - k ≡ suc (n - (k + 1)) = omega arith in
-      rw (s, ne_eqb (byte_at file (i + k)) 0 ne)
-
-  pub zeros_more : k < n → byte_at file (i + k) ≡ 0 → zero_bytes file (n - k) (i + k) ≡ zero_bytes file (n - (k + 1)) (i + (k + 1))
-  unfolding zero_bytes
-  zeros_more h e =
-      let s : n - k ≡ suc (n - (k + 1)) = omega arith in
-      let t : i + (k + 1) ≡ i + k + 1 = omega arith in
-      rw (s, t, eq-eqb (byte_at file (i + k)) 0 e)
+pub zeros_every : (file : List ℕ) (n i : ℕ) → i + n ≤ length file → every (λ (b : ℕ). eqb b 0) (take n (drop i file)) ≡ zero_bytes file n i
+unfolding every zero_bytes
+zeros_every file zero i h = refl
+zeros_every file (suc n) i h =
+    let rest : every (λ (b : ℕ). eqb b 0) (take n (drop (suc i) file)) ≡ zero_bytes file n (i + 1) = rw (← add-one) (zeros_every file n (i + 1) (omega arith)) in
+    rw (drop-cons file i 0 (omega arith), rest)

@@ -5,25 +5,18 @@ ghost use Rattle.format.specs.File.{record_at, half_at, word_at, zero_bytes, fil
 use format::Header;
 use units::Picoseconds;
 
-// A byte as a wider number.
-fn wide(x: u8) -> u32
-    ensures { (result ≡ x) × (result < 256) }
-{
-    x as u32
-}
-
 pub fn half_at(file: &[u8], i: usize) -> u32
     requires { i + 1 < length file.now }
     ensures { result ≡ half_at file.now i }
 {
-    wide(file[i]) + 256 * wide(file[i + 1])
+    u32::from(u16::from_le_bytes([file[i], file[i + 1]]))
 }
 
 pub fn word_at(file: &[u8], i: usize) -> u32
     requires { i + 3 < length file.now }
     ensures { result ≡ word_at file.now i }
 {
-    half_at(file, i) + 65536 * half_at(file, i + 2)
+    u32::from_le_bytes([file[i], file[i + 1], file[i + 2], file[i + 3]])
 }
 
 // Whether the n bytes from i on are zero.
@@ -31,14 +24,7 @@ pub fn zero_bytes(file: &[u8], n: usize, i: usize) -> bool
     requires { i + n ≤ length file.now }
     ensures { result ≡ zero_bytes file.now n i }
 {
-    let mut k: usize = 0;
-    while k < n {
-        if file[i + k] != 0 {
-            return false;
-        }
-        k += 1;
-    }
-    true
+    file[i..i + n].iter().all(|byte| *byte == 0)
 }
 
 // Where record r starts.
@@ -52,12 +38,11 @@ pub fn file_header(file: &[u8]) -> Header
     requires { 16 ≤ length file.now }
     ensures { result ≡ file_header file.now }
 {
-    let horizon = word_at(file, 4);
     Header {
-        nodes: wide(file[0]),
-        transistors: wide(file[1]),
-        entries: wide(file[2]),
-        letters: wide(file[3]),
-        horizon: Picoseconds(horizon as u64),
+        nodes: u32::from(file[0]),
+        transistors: u32::from(file[1]),
+        entries: u32::from(file[2]),
+        letters: u32::from(file[3]),
+        horizon: Picoseconds(u64::from(word_at(file, 4))),
     }
 }

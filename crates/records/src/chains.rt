@@ -4,7 +4,6 @@ ghost use Rattle.format.specs.Legal.{within};
 ghost use Rattle.format.specs.File.{kind_at, next_at, chain};
 ghost use Rattle.records.specs.Chain.{chain_found};
 
-use crate::Chain;
 use crate::bytes::{half_at, record_at};
 
 // Whether r is a record of the kind.
@@ -12,52 +11,29 @@ fn is_link(file: &[u8], count: u32, kind: u8, r: u32) -> bool
     requires { 16 * (1 + count) ≤ length file.now }
     ensures { result ≡ (within 1 count r && eqb (kind_at file.now r) kind) }
 {
-    if r < 1 {
-        return false;
-    }
-    if count < r {
-        return false;
-    }
-    let i = record_at(r);
-    file[i] == kind
+    1 <= r && r <= count && file[record_at(r)] == kind
 }
 
 fn next_at(file: &[u8], r: u32) -> u32
     requires { 16 * r + 16 ≤ length file.now }
     ensures { result ≡ next_at file.now r }
 {
-    let i = record_at(r);
-    half_at(file, i + 2)
+    half_at(file, record_at(r) + 2)
 }
 
-// The n records of the kind from the first on, in a file of count records.
-pub fn chain(file: &[u8], count: u32, kind: u8, n: u32, first: u32) -> Chain
+// The n records of the kind from the first on, in a file of count records: their numbers in the first places, zero in the others.
+pub fn chain(file: &[u8], count: u32, kind: u8, n: u32, first: u32) -> Option<[u32; 64]>
     requires { (16 * (1 + count) ≤ length file.now) × (n ≤ 64) }
     ensures { result ≡ chain_found (chain file.now count kind n first) }
 {
-    let most = n as usize;
     let mut records = [0u32; 64];
     let mut r = first;
-    let mut k: usize = 0;
-    while k < most {
+    for k in 0..n as usize {
         if !is_link(file, count, kind, r) {
-            return Chain {
-                found: false,
-                records: [0u32; 64],
-            };
+            return None;
         }
         records[k] = r;
         r = next_at(file, r);
-        k += 1;
     }
-    if r != 0 {
-        return Chain {
-            found: false,
-            records: [0u32; 64],
-        };
-    }
-    Chain {
-        found: true,
-        records,
-    }
+    if r == 0 { Some(records) } else { None }
 }

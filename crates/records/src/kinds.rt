@@ -1,117 +1,153 @@
 // The kinds of records, and the fields of each.
-ghost use Rattle.std.specs.Prelude.{◌≡◌, map, ◌+◌, ◌*◌, ◌≤◌, length, take};
-ghost use Rattle.format.specs.Circuit.{no_node, no_transistor, no_entry};
-ghost use Rattle.format.specs.File.{node_at, transistor_at, entry_at};
+ghost use Rattle.std.specs.Prelude.{◌≡◌, ℕ, Bool, List, map, ◌+◌, ◌*◌, ◌≤◌, length, take};
+ghost use Rattle.format.specs.Circuit.{no_node, no_transistor, no_entry, every};
+ghost use Rattle.format.specs.File.{node_kind, transistor_kind, entry_kind, node_at, transistor_at, entry_at, node_blank, transistor_blank, entry_blank};
 ghost use Rattle.lists.specs.Padded.{padded};
 ghost use Rattle.records.specs.Chain.{Inside};
 
-use crate::bytes::{half_at, record_at, word_at};
+use crate::bytes::{half_at, record_at, word_at, zero_bytes};
 use format::{Entry, Node, Transistor};
 use units::{Femtofarads, Ohms, Picoseconds};
 
-pub const NODE: u8 = 1;
+// A record of the file: the byte of its kind, what stands in a place without one, its fields, and whether its bytes without a name are zero.
+pub trait FileRecord: Copy {
+    ghost KIND: { ℕ };
 
-pub const TRANSISTOR: u8 = 2;
+    ghost NONE: { Self };
 
-pub const ENTRY: u8 = 3;
+    ghost at: { List ℕ → ℕ → Self };
 
-pub fn node_at(file: &[u8], r: u32) -> Node
-    requires { 16 * r + 16 ≤ length file.now }
-    ensures { result ≡ node_at file.now r }
-{
-    let i = record_at(r);
-    let capacitance = half_at(file, i + 6);
-    Node {
-        role: file[i + 4],
-        start: file[i + 5],
-        capacitance: Femtofarads(capacitance),
-    }
+    ghost blank: { List ℕ → ℕ → Bool };
+
+    const KIND: u8;
+
+    const NONE: Self;
+
+    fn read(file: &[u8], r: u32) -> Self
+        requires { 16 * r + 16 ≤ length file.now }
+        ensures { result ≡ at file.now r };
+
+    fn is_blank(file: &[u8], r: u32) -> bool
+        requires { 16 * r + 16 ≤ length file.now }
+        ensures { result ≡ blank file.now r };
 }
 
-pub fn transistor_at(file: &[u8], r: u32) -> Transistor
-    requires { 16 * r + 16 ≤ length file.now }
-    ensures { result ≡ transistor_at file.now r }
-{
-    let i = record_at(r);
-    let resistance = word_at(file, i + 8);
-    Transistor {
-        polarity: file[i + 4],
-        gate: file[i + 5],
-        first: file[i + 6],
-        second: file[i + 7],
-        resistance: Ohms(resistance),
-    }
-}
+impl FileRecord for Node {
+    ghost KIND = { node_kind };
 
-pub fn entry_at(file: &[u8], r: u32) -> Entry
-    requires { 16 * r + 16 ≤ length file.now }
-    ensures { result ≡ entry_at file.now r }
-{
-    let i = record_at(r);
-    let time = word_at(file, i + 8);
-    Entry {
-        input: file[i + 4],
-        source: file[i + 5],
-        time: Picoseconds(time as u64),
-    }
-}
+    ghost NONE = { no_node };
 
-// The nodes of the first n records.
-pub fn nodes_at(file: &[u8], records: [u32; 64], n: u32) -> [Node; 24]
-    requires { (n ≤ 24) × Inside file.now n records }
-    ensures { result ≡ padded 24 no_node (map (node_at file.now) (take n records)) }
-{
-    let most = n as usize;
-    let none = Node {
+    ghost at = { node_at };
+
+    ghost blank = { node_blank };
+
+    const KIND: u8 = 1;
+
+    const NONE: Node = Node {
         role: 0,
         start: 0,
         capacitance: Femtofarads(0),
     };
-    let mut nodes = [none; 24];
-    let mut k: usize = 0;
-    while k < most {
-        nodes[k] = node_at(file, records[k]);
-        k += 1;
+
+    fn read(file: &[u8], r: u32) -> Node {
+        let i = record_at(r);
+        Node {
+            role: file[i + 4],
+            start: file[i + 5],
+            capacitance: Femtofarads(half_at(file, i + 6)),
+        }
     }
-    nodes
+
+    fn is_blank(file: &[u8], r: u32) -> bool {
+        let i = record_at(r);
+        zero_bytes(file, 1, i + 1) && zero_bytes(file, 8, i + 8)
+    }
 }
 
-pub fn transistors_at(file: &[u8], records: [u32; 64], n: u32) -> [Transistor; 64]
-    requires { (n ≤ 64) × Inside file.now n records }
-    ensures { result ≡ padded 64 no_transistor (map (transistor_at file.now) (take n records)) }
-{
-    let most = n as usize;
-    let none = Transistor {
+impl FileRecord for Transistor {
+    ghost KIND = { transistor_kind };
+
+    ghost NONE = { no_transistor };
+
+    ghost at = { transistor_at };
+
+    ghost blank = { transistor_blank };
+
+    const KIND: u8 = 2;
+
+    const NONE: Transistor = Transistor {
         polarity: 0,
         gate: 0,
         first: 0,
         second: 0,
         resistance: Ohms(0),
     };
-    let mut transistors = [none; 64];
-    let mut k: usize = 0;
-    while k < most {
-        transistors[k] = transistor_at(file, records[k]);
-        k += 1;
+
+    fn read(file: &[u8], r: u32) -> Transistor {
+        let i = record_at(r);
+        Transistor {
+            polarity: file[i + 4],
+            gate: file[i + 5],
+            first: file[i + 6],
+            second: file[i + 7],
+            resistance: Ohms(word_at(file, i + 8)),
+        }
     }
-    transistors
+
+    fn is_blank(file: &[u8], r: u32) -> bool {
+        let i = record_at(r);
+        zero_bytes(file, 1, i + 1) && zero_bytes(file, 4, i + 12)
+    }
 }
 
-pub fn entries_at(file: &[u8], records: [u32; 64], n: u32) -> [Entry; 64]
-    requires { (n ≤ 64) × Inside file.now n records }
-    ensures { result ≡ padded 64 no_entry (map (entry_at file.now) (take n records)) }
-{
-    let most = n as usize;
-    let none = Entry {
+impl FileRecord for Entry {
+    ghost KIND = { entry_kind };
+
+    ghost NONE = { no_entry };
+
+    ghost at = { entry_at };
+
+    ghost blank = { entry_blank };
+
+    const KIND: u8 = 3;
+
+    const NONE: Entry = Entry {
         input: 0,
         source: 0,
         time: Picoseconds(0),
     };
-    let mut entries = [none; 64];
-    let mut k: usize = 0;
-    while k < most {
-        entries[k] = entry_at(file, records[k]);
-        k += 1;
+
+    fn read(file: &[u8], r: u32) -> Entry {
+        let i = record_at(r);
+        Entry {
+            input: file[i + 4],
+            source: file[i + 5],
+            time: Picoseconds(u64::from(word_at(file, i + 8))),
+        }
     }
-    entries
+
+    fn is_blank(file: &[u8], r: u32) -> bool {
+        let i = record_at(r);
+        zero_bytes(file, 1, i + 1) && zero_bytes(file, 2, i + 6) && zero_bytes(file, 4, i + 12)
+    }
+}
+
+// The first n of the records, in N places.
+pub fn records_at<R: FileRecord, const N: usize>(file: &[u8], records: [u32; 64], n: u32) -> [R; N]
+    requires { (n ≤ N) × (n ≤ 64) × Inside file.now n records }
+    ensures { result ≡ padded N R.NONE (map (R.at file.now) (take n records)) }
+{
+    let mut found = [R::NONE; N];
+    for k in 0..n as usize {
+        found[k] = R::read(file, records[k]);
+    }
+    found
+}
+
+// Whether the first n of the records have no byte without a name that is not zero.
+pub fn records_blank<R: FileRecord>(file: &[u8], records: [u32; 64], n: u32) -> bool
+    requires { (n ≤ 64) × Inside file.now n records }
+    ensures { result ≡ every (R.blank file.now) (take n records) }
+{
+    records[..n as usize].iter().all(|r| R::is_blank(file, *r))
 }

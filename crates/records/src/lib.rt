@@ -3,14 +3,6 @@
 // Nothing is judged here but a chain and the bytes that have no name; limits and fields are the next layer's.
 #![tactic(auto)]
 
-pub mod blanks;
 pub mod bytes;
 pub mod chains;
 pub mod kinds;
-
-// The record numbers of a chain in the first places, zero in the others; all zero where the chain is not found.
-#[derive(Clone, Copy)]
-pub struct Chain {
-    pub found: bool,
-    pub records: [u32; 64],
-}

@@ -1,9 +1,7 @@
 -- Document 01, "Numbers given to the editor", and 11 of document 02's wish 3: the number of each refusal, by its trade word. 0 is no refusal.
-use Rattle.std.specs.Prelude.{ℕ}
+use Rattle.std.specs.Prelude.{ℕ, ⊤, Result, Ok, Err}
 use Rattle.refusal.specs.declared.Refusal.{Refusal}
 use Rattle.refusal.specs.declared.Refusal.TheVariants.{Length, Header, Chain, Record, Order, Full, Unsound, Buffer, Question, Finished, Ceiling}
-use Rattle.refusal.specs.declared.Reply.{Reply}
-use Rattle.refusal.specs.declared.Reply.TheVariants.{Done, Refused}
 
 abbrev pub refusal_number : Refusal → ℕ
 refusal_number Length = 1
@@ -18,6 +16,10 @@ refusal_number Question = 9
 refusal_number Finished = 10
 refusal_number Ceiling = 11
 
+-- the answer of a call that gives nothing besides
+abbrev pub Reply : Type 0
+Reply = Result ⊤ Refusal
+
 abbrev pub reply_number : Reply → ℕ
-reply_number Done = 0
-reply_number (Refused why) = refusal_number why
+reply_number (Ok done) = 0
+reply_number (Err why) = refusal_number why

@@ -5,10 +5,9 @@
 
 ghost use Rattle.std.specs.Prelude.{◌≡◌};
 ghost use Rattle.refusal.specs.Number.{refusal_number, reply_number};
-ghost use Rattle.refusal.specs.Answer.{refuses as refusesOf};
 
 // The conditions of document 01's table "Numbers given to the editor", by its trade words, and document 02's.
-#[derive(Clone, Copy)]
+#[derive(Clone, Copy, Debug, PartialEq, Eq)]
 pub enum Refusal {
     Length,
     Header,
@@ -24,45 +23,35 @@ pub enum Refusal {
 }
 
 // The answer of a call that gives nothing besides.
-#[derive(Clone, Copy)]
-pub enum Reply {
-    Done,
-    Refused(Refusal),
-}
+pub type Reply = Result<(), Refusal>;
 
-pub fn refusal_number(why: Refusal) -> u32
-    ensures { result ≡ refusal_number why }
-{
-    match why {
-        Refusal::Length => 1,
-        Refusal::Header => 2,
-        Refusal::Chain => 3,
-        Refusal::Record => 4,
-        Refusal::Order => 5,
-        Refusal::Full => 6,
-        Refusal::Unsound => 7,
-        Refusal::Buffer => 8,
-        Refusal::Question => 9,
-        Refusal::Finished => 10,
-        Refusal::Ceiling => 11,
+// The number of a refusal.
+impl From<Refusal> for u32 {
+    ghost from_gives = { λ why n. n ≡ refusal_number why };
+
+    fn from(why: Refusal) -> u32 {
+        match why {
+            Refusal::Length => 1,
+            Refusal::Header => 2,
+            Refusal::Chain => 3,
+            Refusal::Record => 4,
+            Refusal::Order => 5,
+            Refusal::Full => 6,
+            Refusal::Unsound => 7,
+            Refusal::Buffer => 8,
+            Refusal::Question => 9,
+            Refusal::Finished => 10,
+            Refusal::Ceiling => 11,
+        }
     }
 }
 
+// The number of a reply: 0 is no refusal.
 pub fn reply_number(reply: Reply) -> u32
     ensures { result ≡ reply_number reply }
 {
     match reply {
-        Reply::Done => 0,
-        Reply::Refused(why) => refusal_number(why),
-    }
-}
-
-// Whether a reply is a refusal.
-pub fn refuses(reply: Reply) -> bool
-    ensures { result ≡ refusesOf reply }
-{
-    match reply {
-        Reply::Done => false,
-        Reply::Refused(_) => true,
+        Ok(()) => 0,
+        Err(why) => u32::from(why),
     }
 }

@@ -1,5 +1,7 @@
--- No cell is refused 8, and what the reply of reading or checking says of the cell.
-use mathlib.Core.Path.{◌≡◌, refl}
+-- No cell is refused 8, and what reading or checking says of the cell.
+use Rattle.std.proofs.Common.{Result, Ok, Err}
+use Rattle.std.specs.Result.{result_and}
+use mathlib.Core.Path.{◌≡◌, refl, sym}
 use mathlib.Core.List.{List, map}
 use mathlib.Core.Bool.{Bool, true, false, ◌&&◌}
 use mathlib.Core.Option.{Option, some, none}
@@ -8,18 +10,15 @@ use lib.ListN.{length}
 use lib.Dec.{leb, eqb}
 use Rattle.refusal.specs.declared.Refusal.{Refusal}
 use Rattle.refusal.specs.declared.Refusal.TheVariants.{Length, Header, Record, Order, Buffer}
-use Rattle.refusal.specs.declared.Reply.{Reply}
-use Rattle.refusal.specs.Number.{refusal_number, reply_number}
-use Rattle.refusal.specs.Answer.{Answer, refused, answered, check, answer_number, reply_of}
-use Rattle.refusal.proofs.Answer.{reply_number_lem}
+use Rattle.refusal.specs.Number.{Reply, refusal_number}
+use Rattle.refusal.specs.Answer.{Answer, answered, check, answer_number, reply_of}
 use Rattle.format.specs.declared.Header as header
 use Rattle.format.specs.Circuit.{Circuit, header_of, every}
 use Rattle.format.specs.Legal.{limits_kept, fields_legal, rising, check_circuit}
 use Rattle.format.specs.File.{record_size, file_header, first_node, first_transistor, first_entry, header_legal, record_count, stated_length, node_kind, transistor_kind, entry_kind, chain, entry_at, node_blank, transistor_blank, entry_blank, file_circuit, chained, read_fields, read_chains, read_cell}
 use Rattle.cell.specs.declared.Cell.{Cell}
-use Rattle.cell.specs.declared.Reading.{Reading}
-use Rattle.cell.specs.Value.{circuit_of, reading}
-use Rattle.cell.proofs.Answers.{reading_legal, check_legal}
+use Rattle.cell.specs.Value.{circuit_of, reading, cell_by}
+use Rattle.cell.proofs.Answers.{reading_legal, reading_refused, check_legal, check_refused}
 use Rattle.run.specs.Replied.{Replied}
 
 -- an answer is not the refusal 8
@@ -68,16 +67,18 @@ unfolding check_circuit
 circuit_other c =
     check_other (limits_kept (header_of c)) Header _ refl (check_other (fields_legal c) Record _ refl (check_other (rising c.schedule) Order _ refl (answered_other c)))
 
-reading_other : (a : Answer Circuit) → Other a → eqb (reply_number (reading a).reply) (refusal_number Buffer) ≡ false
-unfolding reading
-reading_other (refused why) o = o.is
-reading_other (answered c) o = refl
+-- what a reading says
+pub read_replied : (file : List ℕ) (x : Result Cell Refusal) → x ≡ reading (read_cell file) → Replied x
+read_replied file (Ok cell) e = record { legal = reading_legal file (Ok cell) e cell refl; other = tt }
+read_replied file (Err why) e = record { legal = tt; other = rw (reading_refused file (Err why) e why refl) at (read_other file).is }
 
--- what the reply of a reading says
-pub read_replied : (file : List ℕ) (x : Reading) → x ≡ reading (read_cell file) → Replied x.reply x.cell
-read_replied file x e = record { legal = reading_legal file x e; other = rw e (reading_other (read_cell file) (read_other file)) }
+-- and a check
+pub checked_replied : (cell : Cell) (reply : Reply) (x : Result Cell Refusal) → reply ≡ reply_of (check_circuit (circuit_of cell)) → x ≡ result_and reply (Ok cell) → Replied x
+checked_replied cell (Ok done) x e e' = rw e' record { legal = check_legal cell (Ok done) e refl; other = tt }
+checked_replied cell (Err why) x e e' = rw e' record { legal = tt; other = rw (check_refused cell (Err why) e why refl) at (circuit_other (circuit_of cell)).is }
 
--- and of a check
-pub checked_replied : (cell : Cell) (reply : Reply) → reply ≡ reply_of (check_circuit (circuit_of cell)) → Replied reply cell
-checked_replied cell reply e =
-    record { legal = check_legal cell reply e; other = rw (e, reply_number_lem (check_circuit (circuit_of cell))) (circuit_other (circuit_of cell)).is }
+-- whose answer is that of the check
+pub checked_by : (cell : Cell) (reply : Reply) (x : Result Cell Refusal) → reply ≡ reply_of (check_circuit (circuit_of cell)) → x ≡ result_and reply (Ok cell)
+    → cell_by x ≡ check_circuit (circuit_of cell)
+checked_by cell (Ok done) x e e' = rw e' (sym (check_legal cell (Ok done) e refl))
+checked_by cell (Err why) x e e' = rw e' (sym (check_refused cell (Err why) e why refl))

@@ -1,4 +1,5 @@
 -- What start, step and run up to a picosecond leave, at each of their ends.
+use Rattle.std.proofs.Common.{Result, Err}
 use mathlib.Core.Path.{◌≡◌, refl, sym, ◌∙◌}
 use mathlib.Core.List.{List}
 use mathlib.Core.Bool.{Bool, true, false, ◌&&◌, cond}
@@ -9,8 +10,6 @@ use lib.ListN.{length, replicate, length-replicate}
 use lib.Dec.{leb, ltb, eqb}
 use Rattle.refusal.specs.declared.Refusal.{Refusal}
 use Rattle.refusal.specs.declared.Refusal.TheVariants.{Buffer, Unsound, Finished, Ceiling, Full}
-use Rattle.refusal.specs.declared.Reply.{Reply}
-use Rattle.refusal.specs.declared.Reply.TheVariants.{Refused}
 use Rattle.refusal.specs.Number.{refusal_number}
 use Rattle.refusal.specs.Answer.{Answer, refused, answered}
 use Rattle.lists.proofs.Cases.{and_left, and_right}
@@ -113,36 +112,35 @@ working_zeroed : (working : Columns) (answer : Answer Moment) → Other answer �
 working_zeroed working answer o = rw o.is
 
 -- a call refused 8 touches nothing
-pub done_buffer : (cell : Answer Circuit) (task : Task) (table : Columns) (r : Run) (working : Columns) {x : Bool} {reply : Reply} {r' : Run}
-    → x ≡ (lengths_legal table && working_legal working) → x ≡ false → (reply ≡ Refused Buffer) × (r' ≡ r)
-    → DoneAs table table working working r (task_call cell task table r working) reply r'
-done_buffer cell task table r working is e a =
-    rw (task_buffer cell task table r working (sym is ∙ e)) record { reply_is = a.0; run_is = a.1; table_is = refl; working_is = refl }
+pub done_buffer : (cell : Answer Circuit) (task : Task) (table : Columns) (r : Run) (working : Columns) {x : Bool}
+    → x ≡ (lengths_legal table && working_legal working) → x ≡ false
+    → DoneAs table table working working (task_call cell task table r working) (Err Buffer)
+done_buffer cell task table r working is e =
+    rw (task_buffer cell task table r working (sym is ∙ e)) record { result_is = refl; table_is = refl; working_is = refl }
 
--- a refused cell leaves run and table, and working zero
-done_refused : (why : Refusal) (task : Task) (table : Columns) (r : Run) (working working' : Columns) {reply : Reply} {r' : Run}
-    → (lengths_legal table && working_legal working) ≡ true → eqb (refusal_number why) (refusal_number Buffer) ≡ false → working' ≡ zeroed working → (reply ≡ Refused why) × (r' ≡ r)
-    → DoneAs table table working working' r (task_call (refused why) task table r working) reply r'
-done_refused why task table r working working' e o z x =
+-- a refused cell leaves the table, and working zero
+done_refused : (why : Refusal) (task : Task) (table : Columns) (r : Run) (working working' : Columns)
+    → (lengths_legal table && working_legal working) ≡ true → eqb (refusal_number why) (refusal_number Buffer) ≡ false → working' ≡ zeroed working
+    → DoneAs table table working working' (task_call (refused why) task table r working) (Err why)
+done_refused why task table r working working' e o z =
     rw (task_refused why task table r working e)
-    record { reply_is = x.0; run_is = x.1; table_is = refl; working_is = z ∙ sym (working_zeroed working (refused why) (record { is = o })) }
+    record { result_is = refl; table_is = refl; working_is = z ∙ sym (working_zeroed working (refused why) (record { is = o })) }
 
-pub replied_refused : {reply : Reply} {cell : Cell} → Replied reply cell → (why : Refusal) → reply ≡ Refused why
-    → (task : Task) (table : Columns) (r : Run) (working : Columns) {x : Bool} {working' : Columns} {reply' : Reply} {r' : Run}
-    → x ≡ (lengths_legal table && working_legal working) → x ≡ true → working' ≡ zeroed working → (reply' ≡ Refused why) × (r' ≡ r)
-    → DoneAs table table working working' r (task_call (cell_by reply cell) task table r working) reply' r'
-replied_refused g why e task table r working {working' = working'} is legal z a =
-    rw e (done_refused why task table r working working' (sym is ∙ legal) (rw e at g.other) z a)
+pub replied_refused : {read : Result Cell Refusal} → Replied read → (why : Refusal) → read ≡ Err why
+    → (task : Task) (table : Columns) (r : Run) (working : Columns) {x : Bool} {working' : Columns}
+    → x ≡ (lengths_legal table && working_legal working) → x ≡ true → working' ≡ zeroed working
+    → DoneAs table table working working' (task_call (cell_by read) task table r working) (Err why)
+replied_refused g why e task table r working {working' = working'} is legal z =
+    rw e (done_refused why task table r working working' (sym is ∙ legal) (rw e at g.other) z)
 
 -- a task that was taken on leaves working zero
-pub done_went : {c d : Circuit} (task : Task) {table table' : Columns} {r : Run} {working working' : Columns} {reply : Reply} {r' : Run}
-    → d ≡ c → lengths_legal table ≡ true → working_legal working ≡ true → WentAs table table' r (task_call (answered d) task table r working) reply r' → working' ≡ zeroed working
-    → DoneAs table table' working working' r (task_call (answered c) task table r working) reply r'
-done_went {c} {d} task {table} {table'} {r} {working} {working'} same p q w z =
+pub done_went : {c d : Circuit} (task : Task) (r : Run) {table table' : Columns} {working working' : Columns} {result : Result Run Refusal}
+    → d ≡ c → lengths_legal table ≡ true → working_legal working ≡ true → WentAs table table' (task_call (answered d) task table r working) result → working' ≡ zeroed working
+    → DoneAs table table' working working' (task_call (answered c) task table r working) result
+done_went {c} {d} task r {table} {table'} {working} {working'} same p q w z =
     rw (← same)
     record {
-      reply_is = w.reply_is;
-      run_is = w.run_is;
+      result_is = w.result_is;
       table_is = w.table_is;
       working_is = z ∙ sym (working_zeroed working (task_call (answered d) task table r working) (task_other d task table r working p q));
     }

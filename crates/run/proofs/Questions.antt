@@ -1,4 +1,5 @@
 -- What a run question gives, at each of its ends: 8, the cell, 7, 9, and the answer.
+use Rattle.std.proofs.Common.{Ok, Err}
 use mathlib.Core.Path.{◌≡◌, refl, sym, ◌∙◌}
 use mathlib.Core.List.{List}
 use mathlib.Core.Bool.{Bool, true, false}
@@ -9,8 +10,6 @@ use lib.Dec.{ltb}
 use borrow.Author.Tests.{lt-ltb, le-ltb}
 use Rattle.refusal.specs.declared.Refusal.{Refusal}
 use Rattle.refusal.specs.declared.Refusal.TheVariants.{Buffer, Unsound, Question}
-use Rattle.refusal.specs.declared.Reply.{Reply}
-use Rattle.refusal.specs.declared.Reply.TheVariants.{Done, Refused}
 use Rattle.refusal.specs.Answer.{Answer, refused, answered}
 use Rattle.format.specs.Circuit.{Circuit}
 use Rattle.diagram.specs.Pattern.{patterns}
@@ -27,25 +26,23 @@ use Rattle.net.specs.Net.{nodes_place, letters_place, at, net_circuit}
 use Rattle.net.specs.Laid.{Laid}
 use Rattle.net.proofs.Laying.{nodes_length, letters_at}
 use Rattle.record.specs.declared.Run.{Run}
+use Rattle.record.specs.declared.Wire as given
 use Rattle.record.specs.Record.{run_of}
 use Rattle.run.specs.Asked.{AskedAs}
 
 -- a refused question says nothing
-asked_refused : (answer : Answer Wire) (why : Refusal) (reply : Reply) (value change : ℕ) → answer ≡ refused why → (reply ≡ Refused why) × (value ≡ 0) × (change ≡ 0)
-    → AskedAs answer reply value change
-asked_refused answer why reply value change e x = rw e record { reply_is = x.0; value_is = x.1; change_is = x.2 }
+asked_refused : (answer : Answer Wire) (why : Refusal) → answer ≡ refused why → AskedAs answer (Err why)
+asked_refused answer why e = rw e record { result_is = refl }
 
 -- 8
-pub asked_buffer : (cell : Answer Circuit) (table : Columns) (run : defined.Run) (n p : ℕ) {reply : Reply} {value change : ℕ} → lengths_legal table ≡ false
-    → (reply ≡ Refused Buffer) × (value ≡ 0) × (change ≡ 0) → AskedAs (ask_call cell table run n p) reply value change
+pub asked_buffer : (cell : Answer Circuit) (table : Columns) (run : defined.Run) (n p : ℕ) → lengths_legal table ≡ false → AskedAs (ask_call cell table run n p) (Err Buffer)
 unfolding ask_call
-asked_buffer cell table run n p {reply} {value} {change} e x = asked_refused (ask_call cell table run n p) Buffer reply value change (rw e) x
+asked_buffer cell table run n p e = asked_refused (ask_call cell table run n p) Buffer (rw e)
 
 -- the cell
-pub asked_cell : (why : Refusal) (table : Columns) (run : defined.Run) (n p : ℕ) {reply : Reply} {value change : ℕ} → lengths_legal table ≡ true
-    → (reply ≡ Refused why) × (value ≡ 0) × (change ≡ 0) → AskedAs (ask_call (refused why) table run n p) reply value change
+pub asked_cell : (why : Refusal) (table : Columns) (run : defined.Run) (n p : ℕ) → lengths_legal table ≡ true → AskedAs (ask_call (refused why) table run n p) (Err why)
 unfolding ask_call
-asked_cell why table run n p {reply} {value} {change} e x = asked_refused (ask_call (refused why) table run n p) why reply value change (rw e) x
+asked_cell why table run n p e = asked_refused (ask_call (refused why) table run n p) why (rw e)
 
 -- on a cell laid out flat, with columns of legal lengths
 module _ (net l w h : List ℕ) (r : Run) (n p : ℕ) (laid : Laid (net_circuit net) net) (legal : lengths_legal (columns l w h) ≡ true) where
@@ -60,10 +57,9 @@ module _ (net l w h : List ℕ) (r : Run) (n p : ℕ) (laid : Laid (net_circuit 
     columns_by = rw (← letters_at net) at (sym j.is)
 
     -- 7: the table
-    pub asked_table : {reply : Reply} {value change : ℕ} → x ≡ false → (reply ≡ Refused Unsound) × (value ≡ 0) × (change ≡ 0)
-        → AskedAs (ask_call (answered (net_circuit net)) (columns l w h) (run_of (net_circuit net) r) n p) reply value change
+    pub asked_table : x ≡ false → AskedAs (ask_call (answered (net_circuit net)) (columns l w h) (run_of (net_circuit net) r) n p) (Err Unsound)
     unfolding ask_call
-    asked_table {reply} {value} {change} e a = asked_refused call Unsound reply value change (rw (legal, columns_by, e)) a
+    asked_table e = asked_refused call Unsound (rw (legal, columns_by, e))
 
     -- a sound table can be read
     pub table_legible : x ≡ true → Legible (at net letters_place) l w h r.used
@@ -71,34 +67,31 @@ module _ (net l w h : List ℕ) (r : Run) (n p : ℕ) (laid : Laid (net_circuit 
 
     module _ (e : x ≡ true) where
       -- 7: the run
-      pub asked_run : {y : Bool} {reply : Reply} {value change : ℕ} → y ≡ run_sound (net_circuit net) (held l w h r.used) (run_of (net_circuit net) r) → y ≡ false
-          → (reply ≡ Refused Unsound) × (value ≡ 0) × (change ≡ 0)
-          → AskedAs (ask_call (answered (net_circuit net)) (columns l w h) (run_of (net_circuit net) r) n p) reply value change
+      pub asked_run : {y : Bool} → y ≡ run_sound (net_circuit net) (held l w h r.used) (run_of (net_circuit net) r) → y ≡ false
+          → AskedAs (ask_call (answered (net_circuit net)) (columns l w h) (run_of (net_circuit net) r) n p) (Err Unsound)
       unfolding ask_call
-      asked_run {y} {reply} {value} {change} is f a = asked_refused call Unsound reply value change (rw (legal, columns_by, e, ← is, f)) a
+      asked_run is f = asked_refused call Unsound (rw (legal, columns_by, e, ← is, f))
 
       module _ {y : Bool} (is : y ≡ run_sound (net_circuit net) (held l w h r.used) (run_of (net_circuit net) r)) (f : y ≡ true) where
         -- 9: the node
-        pub asked_node : {reply : Reply} {value change : ℕ} → at net nodes_place + 2 ≤ n → (reply ≡ Refused Question) × (value ≡ 0) × (change ≡ 0)
-            → AskedAs (ask_call (answered (net_circuit net)) (columns l w h) (run_of (net_circuit net) r) n p) reply value change
+        pub asked_node : at net nodes_place + 2 ≤ n → AskedAs (ask_call (answered (net_circuit net)) (columns l w h) (run_of (net_circuit net) r) n p) (Err Question)
         unfolding ask_call
-        asked_node {reply} {value} {change} g a =
-            asked_refused call Question reply value change (rw (legal, columns_by, e, ← is, f, le-ltb n (2 + length c.nodes) (omega (arith, nodes_length net)))) a
+        asked_node g = asked_refused call Question (rw (legal, columns_by, e, ← is, f, le-ltb n (2 + length c.nodes) (omega (arith, nodes_length net))))
 
         -- 9: the pattern
-        pub asked_pattern : {reply : Reply} {value change : ℕ} → n < at net nodes_place + 2 → ltb p (patterns (at net letters_place)) ≡ false → (reply ≡ Refused Question) × (value ≡ 0) × (change ≡ 0)
-            → AskedAs (ask_call (answered (net_circuit net)) (columns l w h) (run_of (net_circuit net) r) n p) reply value change
+        pub asked_pattern : n < at net nodes_place + 2 → ltb p (patterns (at net letters_place)) ≡ false
+            → AskedAs (ask_call (answered (net_circuit net)) (columns l w h) (run_of (net_circuit net) r) n p) (Err Question)
         unfolding ask_call
-        asked_pattern {reply} {value} {change} g k a =
-            asked_refused call Question reply value change
-            (rw (legal, columns_by, e, ← is, f, lt-ltb n (2 + length c.nodes) (omega (arith, nodes_length net)), (rw (← letters_at net) at k))) a
+        asked_pattern g k =
+            asked_refused call Question
+            (rw (legal, columns_by, e, ← is, f, lt-ltb n (2 + length c.nodes) (omega (arith, nodes_length net)), (rw (← letters_at net) at k)))
 
         -- the answer
-        pub asked_done : {value change : ℕ} → n < at net nodes_place + 2 → ltb p (patterns (at net letters_place)) ≡ true
-            → (value ≡ value_at (state_of (net_circuit net) (held l w h r.used) (run_of (net_circuit net) r) p) n)
-            × (change ≡ change_at (state_of (net_circuit net) (held l w h r.used) (run_of (net_circuit net) r) p) n)
-            → AskedAs (ask_call (answered (net_circuit net)) (columns l w h) (run_of (net_circuit net) r) n p) Done value change
+        pub asked_done : {wire : given.Wire} → n < at net nodes_place + 2 → ltb p (patterns (at net letters_place)) ≡ true
+            → (wire.value ≡ value_at (state_of (net_circuit net) (held l w h r.used) (run_of (net_circuit net) r) p) n)
+            × (wire.change ≡ change_at (state_of (net_circuit net) (held l w h r.used) (run_of (net_circuit net) r) p) n)
+            → AskedAs (ask_call (answered (net_circuit net)) (columns l w h) (run_of (net_circuit net) r) n p) (Ok wire)
         unfolding ask_call
-        asked_done {value} {change} g k a =
+        asked_done {wire} g k a =
             rw (legal, columns_by, e, ← is, f, lt-ltb n (2 + length c.nodes) (omega (arith, nodes_length net)), (rw (← letters_at net) at k))
-            record { reply_is = refl; value_is = a.0; change_is = a.1 }
+            record { result_is = λ i. Ok record { value = a.0 i; change = a.1 i } }

@@ -1,15 +1,14 @@
 -- What a call that starts or advances a run leaves, by its answer.
-use Rattle.std.specs.Prelude.{◌≡◌}
-use Rattle.refusal.specs.declared.Reply.{Reply}
-use Rattle.refusal.specs.Answer.{Answer, reply_of}
+use Rattle.std.specs.Prelude.{◌≡◌, Result}
+use Rattle.refusal.specs.declared.Refusal.{Refusal}
+use Rattle.refusal.specs.Answer.{Answer, result_of}
 use Rattle.diagram.specs.Call.{Columns}
 use Rattle.rules.specs.Run.{Moment}
 use Rattle.record.specs.declared.Run.{Run}
-use Rattle.advance.specs.Went.{run_after, table_after, working_after}
+use Rattle.advance.specs.Went.{run_given, table_after, working_after}
 
--- the table and working before and after, the record before, the answer, what was replied, and the record afterwards
-pub record DoneAs (table table' working working' : Columns) (r : Run) (answer : Answer Moment) (reply : Reply) (r' : Run) : Type 0 where
-  pub reply_is : reply ≡ reply_of answer
-  pub run_is : r' ≡ run_after r answer
+-- the table and working before and after, the answer, and the result: a refusal leaves the run, by giving no other
+pub record DoneAs (table table' working working' : Columns) (answer : Answer Moment) (result : Result Run Refusal) : Type 0 where
+  pub result_is : result ≡ result_of run_given answer
   pub table_is : table' ≡ table_after table answer
   pub working_is : working' ≡ working_after working answer

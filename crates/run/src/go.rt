@@ -1,6 +1,5 @@
 // Start, step and run up to a picosecond.
 ghost use Rattle.std.specs.Prelude.{◌≡◌, true, ◌&&◌};
-ghost use Rattle.refusal.specs.declared.Reply.TheVariants.{Refused};
 ghost use Rattle.refusal.specs.Answer.{answered};
 ghost use Rattle.format.specs.Legal.{check_circuit};
 ghost use Rattle.format.specs.File.{read_cell};
@@ -11,10 +10,10 @@ ghost use Rattle.advance.specs.Task.{task_call};
 ghost use Rattle.run.specs.Done.{DoneAs};
 ghost use Rattle.run.specs.Replied.{Replied};
 
-use advance::{Task, Went, advance};
+use advance::{Task, advance};
 use cell::Cell;
 use record::Run;
-use refusal::{Refusal, Reply};
+use refusal::Refusal;
 use table::{clear, index_len, lengths_legal};
 
 const LEAST_WORKING: usize = 4096;
@@ -39,15 +38,6 @@ fn lengths(
     LEAST_WORKING <= wletter.len()
 }
 
-fn refused(why: Refusal, r: Run) -> Went
-    ensures { (result.reply ≡ Refused why) × (result.run ≡ r) }
-{
-    Went {
-        reply: Reply::Refused(why),
-        run: r,
-    }
-}
-
 // On a legal cell, with columns of legal lengths.
 fn on_legal(
     cell: Cell,
@@ -59,9 +49,9 @@ fn on_legal(
     wletter: &mut [u32],
     wlow: &mut [u32],
     whigh: &mut [u32],
-) -> Went
+) -> Result<Run, Refusal>
     requires { (check_circuit (circuit_of cell) ≡ answered (circuit_of cell)) × (lengths_legal (columns letter.old low.old high.old) ≡ true) × (working_legal (columns wletter.old wlow.old whigh.old) ≡ true) }
-    ensures { DoneAs (columns letter.old low.old high.old) (columns letter.new low.new high.new) (columns wletter.old wlow.old whigh.old) (columns wletter.new wlow.new whigh.new) r (task_call (answered (circuit_of cell)) task (columns letter.old low.old high.old) r (columns wletter.old wlow.old whigh.old)) result.reply result.run }
+    ensures { DoneAs (columns letter.old low.old high.old) (columns letter.new low.new high.new) (columns wletter.old wlow.old whigh.old) (columns wletter.new wlow.new whigh.new) (task_call (answered (circuit_of cell)) task (columns letter.old low.old high.old) r (columns wletter.old wlow.old whigh.old)) result }
 {
     let net = net::lay(cell);
     let n = index_len(letter.len());
@@ -86,10 +76,9 @@ fn on_legal(
     went
 }
 
-// On a cell beside the reply of reading or checking it.
+// On a cell that was read or checked, or its refusal.
 fn on_replied(
-    reply: Reply,
-    cell: Cell,
+    read: Result<Cell, Refusal>,
     task: Task,
     letter: &mut [u32],
     low: &mut [u32],
@@ -98,18 +87,18 @@ fn on_replied(
     wletter: &mut [u32],
     wlow: &mut [u32],
     whigh: &mut [u32],
-) -> Went
-    requires { Replied reply cell }
-    ensures { DoneAs (columns letter.old low.old high.old) (columns letter.new low.new high.new) (columns wletter.old wlow.old whigh.old) (columns wletter.new wlow.new whigh.new) r (task_call (cell_by reply cell) task (columns letter.old low.old high.old) r (columns wletter.old wlow.old whigh.old)) result.reply result.run }
+) -> Result<Run, Refusal>
+    requires { Replied read }
+    ensures { DoneAs (columns letter.old low.old high.old) (columns letter.new low.new high.new) (columns wletter.old wlow.old whigh.old) (columns wletter.new wlow.new whigh.new) (task_call (cell_by read) task (columns letter.old low.old high.old) r (columns wletter.old wlow.old whigh.old)) result }
 {
     if !lengths(letter, low, high, wletter, wlow, whigh) {
-        return refused(Refusal::Buffer, r);
+        return Err(Refusal::Buffer);
     }
-    match reply {
-        Reply::Done => on_legal(cell, task, letter, low, high, r, wletter, wlow, whigh),
-        Reply::Refused(why) => {
+    match read {
+        Ok(cell) => on_legal(cell, task, letter, low, high, r, wletter, wlow, whigh),
+        Err(why) => {
             clear(wletter, wlow, whigh, 0);
-            refused(why, r)
+            Err(why)
         }
     }
 }
@@ -125,15 +114,11 @@ pub fn on_file(
     wletter: &mut [u32],
     wlow: &mut [u32],
     whigh: &mut [u32],
-) -> Went
-    ensures { DoneAs (columns letter.old low.old high.old) (columns letter.new low.new high.new) (columns wletter.old wlow.old whigh.old) (columns wletter.new wlow.new whigh.new) r (task_call (read_cell file.now) task (columns letter.old low.old high.old) r (columns wletter.old wlow.old whigh.old)) result.reply result.run }
+) -> Result<Run, Refusal>
+    ensures { DoneAs (columns letter.old low.old high.old) (columns letter.new low.new high.new) (columns wletter.old wlow.old whigh.old) (columns wletter.new wlow.new whigh.new) (task_call (read_cell file.now) task (columns letter.old low.old high.old) r (columns wletter.old wlow.old whigh.old)) result }
 {
-    let reading = Cell::read(file);
-    let reply = reading.reply;
-    let cell = reading.cell;
-    on_replied(
-        reply, cell, task, letter, low, high, r, wletter, wlow, whigh,
-    )
+    let read = Cell::read(file);
+    on_replied(read, task, letter, low, high, r, wletter, wlow, whigh)
 }
 
 // On a cell by value.
@@ -147,11 +132,9 @@ pub fn on_cell(
     wletter: &mut [u32],
     wlow: &mut [u32],
     whigh: &mut [u32],
-) -> Went
-    ensures { DoneAs (columns letter.old low.old high.old) (columns letter.new low.new high.new) (columns wletter.old wlow.old whigh.old) (columns wletter.new wlow.new whigh.new) r (task_call (check_circuit (circuit_of cell)) task (columns letter.old low.old high.old) r (columns wletter.old wlow.old whigh.old)) result.reply result.run }
+) -> Result<Run, Refusal>
+    ensures { DoneAs (columns letter.old low.old high.old) (columns letter.new low.new high.new) (columns wletter.old wlow.old whigh.old) (columns wletter.new wlow.new whigh.new) (task_call (check_circuit (circuit_of cell)) task (columns letter.old low.old high.old) r (columns wletter.old wlow.old whigh.old)) result }
 {
-    let reply = cell.check();
-    on_replied(
-        reply, cell, task, letter, low, high, r, wletter, wlow, whigh,
-    )
+    let checked = cell.check().and(Ok(cell));
+    on_replied(checked, task, letter, low, high, r, wletter, wlow, whigh)
 }

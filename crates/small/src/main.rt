@@ -17,8 +17,7 @@ use cell::Cell;
 use output::{Printed, print, put_saving};
 use refusal::Refusal;
 use std::env::Env;
-use text::{Parsed, parse, put_bytes};
-use writer::refused;
+use text::{ParseError, parse, put_bytes};
 
 // Longer than an argument can be on Linux; one that does not fit is taken for none.
 const LONGEST: usize = 131072;
@@ -48,19 +47,17 @@ fn put_large(errors: &mut [u8]) -> Printed
     requires { line_room ≤ length errors.old }
     ensures { Message (refused_line Question) errors.new result }
 {
-    let saving = refused(Refusal::Question);
-    put_saving(errors, saving)
+    put_saving(errors, Err(Refusal::Question))
 }
 
 fn put_small(out: &mut [u8], errors: &mut [u8], text: &[u8]) -> Printed
     requires { (most_bytes ≤ length out.old) × (line_room ≤ length errors.old) }
     ensures { Prints (small_output (parsed text.now)) (small_errors (parsed text.now)) out.new errors.new result }
 {
-    let parsed = parse(text);
-    match parsed {
-        Parsed::Number(place) => put_place(out, errors, place),
-        Parsed::Large => put_large(errors),
-        Parsed::Other => put_usage(errors),
+    match parse(text) {
+        Ok(place) => put_place(out, errors, place),
+        Err(ParseError::Large) => put_large(errors),
+        Err(ParseError::Other) => put_usage(errors),
     }
 }
 

@@ -35,7 +35,6 @@ marked_here {test} {x} {v} {old} h is = record {
 
 -- the first i transistors gone through
 pub record Needing (net marks : List ℕ) (i : ℕ) (need : List ℕ) : Type 0 where
-  pub within : i ≤ at net 1
   pub long : length need ≡ 26
   pub own : (n : ℕ) → get_or need n 0 ≡ 0 → get_or marks n 0 ≡ 0
   pub supply : get_or need 1 0 ≡ 0 → ⊥
@@ -43,7 +42,6 @@ pub record Needing (net marks : List ℕ) (i : ℕ) (need : List ℕ) : Type 0 w
 
 pub needing_first : (net marks : List ℕ) → length marks ≡ 26 → Needing net marks 0 (set marks 1 1)
 needing_first net marks long = record {
-  within = omega arith;
   long = length-set marks 1 1 ∙ long;
   own = λ n e.
       ⊎_elim
@@ -58,10 +56,9 @@ needing_first net marks long = record {
     filled e = let one : get_or (set marks 1 1) 1 0 ≡ 1 = get_or-set_same marks 1 1 0 (omega (arith, long)) in omega (arith, one, e)
 
 -- gate and ends of one more
-needing_more : {net marks : List ℕ} {i : ℕ} {a b c d : List ℕ} → Needing net marks i a → i < at net 1 → {test : Bool} → test ≡ end_marked marks (net_transistor net i)
+needing_more : {net marks : List ℕ} {i : ℕ} {a b c d : List ℕ} → Needing net marks i a → {test : Bool} → test ≡ end_marked marks (net_transistor net i)
     → Marked test (net_transistor net i).gate a b → Marked test (net_transistor net i).first b c → Marked test (net_transistor net i).second c d → Needing net marks (i + 1) d
-needing_more {net} {marks} {i} {a} {b} {c} {d} s lt {test} is x y z = record {
-  within = omega arith;
+needing_more {net} {marks} {i} {a} {b} {c} {d} s {test} is x y z = record {
   long = z.long ∙ y.long ∙ x.long ∙ s.long;
   own = λ n e. s.own n (back n e);
   supply = λ e. s.supply (back 1 e);
@@ -85,18 +82,18 @@ needing_more {net} {marks} {i} {a} {b} {c} {d} s lt {test} is x y z = record {
     own n (inr (inr q)) e = z.here (at_place n (net_transistor net i).second q e)
 
 -- and as the code sets them
-pub needing_next : {net marks : List ℕ} {i : ℕ} {need : List ℕ} → Needing net marks i need → i < at net 1 → {test : Bool} → test ≡ end_marked marks (net_transistor net i)
+pub needing_next : {net marks : List ℕ} {i : ℕ} {need : List ℕ} → Needing net marks i need → {test : Bool} → test ≡ end_marked marks (net_transistor net i)
     → (net_transistor net i).gate < 26 → (net_transistor net i).first < 26 → (net_transistor net i).second < 26
     → {u : ℕ} → u ≡ cond test 1 (get_or need (net_transistor net i).gate 0)
     → {v : ℕ} → v ≡ cond test 1 (get_or (set need (net_transistor net i).gate u) (net_transistor net i).first 0)
     → {w : ℕ} → w ≡ cond test 1 (get_or (set (set need (net_transistor net i).gate u) (net_transistor net i).first v) (net_transistor net i).second 0)
     → Needing net marks (i + 1) (set (set (set need (net_transistor net i).gate u) (net_transistor net i).first v) (net_transistor net i).second w)
-needing_next {net} {marks} {i} {need} s lt {test} is gate-small first_small second-small {u} at-gate {v} at_first_lem {w} at_second =
+needing_next {net} {marks} {i} {need} s {test} is gate-small first_small second-small {u} at-gate {v} at_first_lem {w} at_second =
     let t : Transistor = net_transistor net i in
     let x : Marked test t.gate need (set need t.gate u) = marked_here (omega (arith, s.long)) at-gate in
     let y : Marked test t.first (set need t.gate u) (set (set need t.gate u) t.first v) = marked_here (omega (arith, x.long, s.long)) at_first_lem in
     let z : Marked test t.second (set (set need t.gate u) t.first v) (set (set (set need t.gate u) t.first v) t.second w) = marked_here (omega (arith, y.long, x.long, s.long)) at_second in
-    needing_more s lt is x y z
+    needing_more s is x y z
 
 pub needing_done : {net marks : List ℕ} {i : ℕ} {need : List ℕ} → Needing net marks i need → at net 1 ≤ i → Needed net marks need
 needing_done s le = record {

@@ -17,14 +17,7 @@ pub fn stirred(net: &[u32], before: &[u32], after: &[u32]) -> bool
     ensures { result ≡ stirred_by (net_circuit net.now) before.now after.now }
 {
     let count = net[net::TRANSISTORS];
-    let mut i: u32 = 0;
-    while i < count {
-        if disturbed(net, before, after, i) {
-            return true;
-        }
-        i += 1;
-    }
-    false
+    (0..count).any(|i| disturbed(net, before, after, i))
 }
 
 // A mark stays, and what stirs sets one.
@@ -45,11 +38,9 @@ fn stirred_groups(net: &[u32], before: &[u32], after: &[u32]) -> [u32; 26]
 {
     let count = net[net::TRANSISTORS];
     let mut out = [0u32; 26];
-    let mut i: u32 = 0;
-    while i < count {
+    for i in 0..count {
         let g = group_of(net, i);
         out[g] = marked(out[g], disturbed(net, before, after, i));
-        i += 1;
     }
     out
 }
@@ -78,10 +69,8 @@ pub fn stirred_nodes(net: &[u32], before: &[u32], after: &[u32], all: bool) -> [
     let groups = stirred_groups(net, before, after);
     let count = net[net::NODES] as usize + 2;
     let mut out = [0u32; 26];
-    let mut n = 0;
-    while n < count {
+    for n in 0..count {
         out[n] = node_mark(net, groups, all, n);
-        n += 1;
     }
     out
 }

@@ -25,8 +25,7 @@ pub fn needed(net: &[u32], marks: [u32; 26]) -> [u32; 26]
     let count = net[net::TRANSISTORS];
     let mut out = marks;
     out[1] = 1;
-    let mut i: u32 = 0;
-    while i < count {
+    for i in 0..count {
         let at = i as usize;
         let reads = at_marked(net, marks, i);
         let gate = net[net::GATE + at] as usize;
@@ -35,7 +34,6 @@ pub fn needed(net: &[u32], marks: [u32; 26]) -> [u32; 26]
         out[first] = marked(out[first], reads);
         let second = net[net::SECOND + at] as usize;
         out[second] = marked(out[second], reads);
-        i += 1;
     }
     out
 }
@@ -55,10 +53,8 @@ pub fn masked(marks: [u32; 26], entries: [u32; 26]) -> [u32; 26]
     ensures { Masked marks entries result }
 {
     let mut out = [0u32; 26];
-    let mut n = 0;
-    while n < 26 {
+    for n in 0..26 {
         out[n] = kept_entry(marks[n], entries[n]);
-        n += 1;
     }
     out
 }

@@ -185,8 +185,7 @@ pub fn all_at_rest(
     let count = net[net::NODES] as usize;
     let mut out = [0u32; 24];
     let mut now = used;
-    let mut i = 0;
-    while i < count {
+    for i in 0..count {
         let p = at_rest(
             net,
             letter,
@@ -209,7 +208,6 @@ pub fn all_at_rest(
         }
         out[i] = p.entry;
         now = p.used;
-        i += 1;
     }
     Many {
         stop: Stop::Going,

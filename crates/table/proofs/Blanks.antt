@@ -1,5 +1,5 @@
 -- Whether rows are blank, by the bitwise or of all their numbers.
-use mathlib.Core.Path.{◌≡◌, refl, sym, ◌∙◌, ap}
+use mathlib.Core.Path.{◌≡◌, sym, ◌∙◌, ap}
 use mathlib.Core.Logic.{⊎_elim}
 use mathlib.Core.List.{List}
 use Prim.Native.Nat.{ℕ, ◌+◌, ◌-◌, ◌<◌, ◌≤◌}
@@ -32,24 +32,21 @@ pub record Gathered (t : Table) (from n bits : ℕ) : Type 0 where
   pub blanks : bits ≡ 0 → Blanks t from n
   pub none : Blanks t from n → bits ≡ 0
 
-pub gathered_none : (t : Table) (from : ℕ) → Gathered t from from 0
-gathered_none t from = record { passed = omega arith; blanks = λ e. record { each = λ i g k. absurd (omega arith) }; none = λ b. refl }
-
 module _ (l w h : List ℕ) (p : length w ≡ length l) (q : length h ≡ length l) {from n bits : ℕ} (g : Gathered (entries l w h) from n bits) where
   -- a row more
-  pub gathered_next : Gathered (entries l w h) from (n + 1) (bit_or (bit_or (bit_or bits (get_or l n 0)) (get_or w n 0)) (get_or h n 0))
+  pub gathered_next : Gathered (entries l w h) from (n + 1) (bit_or bits (bit_or (bit_or (get_or l n 0) (get_or w n 0)) (get_or h n 0)))
   gathered_next =
       let t : Table = entries l w h in
-      let x : ℕ = bit_or bits (get_or l n 0) in
-      let y : ℕ = bit_or x (get_or w n 0) in
+      let x : ℕ = bit_or (get_or l n 0) (get_or w n 0) in
+      let y : ℕ = bit_or x (get_or h n 0) in
       let past : from ≤ n = g.passed in
       record {
         passed = omega arith;
         blanks = λ e.
-            let ey : y ≡ 0 = or_left y (get_or h n 0) e in
-            let ex : x ≡ 0 = or_left x (get_or w n 0) ey in
-            let before : Blanks t from n = g.blanks (or_left bits (get_or l n 0) ex) in
-            let row : entry_at t n ≡ blank = entries_at l w h p q n ∙ entry_path _ blank (or_right bits (get_or l n 0) ex) (or_right x (get_or w n 0) ey) (or_right y (get_or h n 0) e) in
+            let ey : y ≡ 0 = or_right bits y e in
+            let ex : x ≡ 0 = or_left x (get_or h n 0) ey in
+            let before : Blanks t from n = g.blanks (or_left bits y e) in
+            let row : entry_at t n ≡ blank = entries_at l w h p q n ∙ entry_path _ blank (or_left (get_or l n 0) (get_or w n 0) ex) (or_right (get_or l n 0) (get_or w n 0) ex) (or_right x (get_or h n 0) ey) in
             record {
               each = λ i a k.
                   ⊎_elim

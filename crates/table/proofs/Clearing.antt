@@ -1,25 +1,24 @@
 -- Clearing columns, and starting them anew.
 use mathlib.Core.Path.{◌≡◌, refl, sym, ◌∙◌, ap}
 use mathlib.Core.Logic.{⊎_elim}
-use mathlib.Core.List.{List, [], ◌∷◌, ◌++◌, map}
+use mathlib.Core.List.{List, ◌++◌, map}
 use mathlib.Core.Bool.{true, false}
 use Prim.Native.Nat.{ℕ, ◌+◌, ◌-◌, ◌<◌, ◌≤◌}
-use native.Mathlib.Nat.{sub-zero}
 use native.Mathlib.Omega.{arith}
 use lib.ListN.{length, get_or, set, take, drop, replicate, length-append, length-take, length-drop, length-replicate, length-set, length-map, get_or-append}
+use Rattle.std.proofs.Common.{Ok, Err}
 use lib.Seq.{get_or-set_same, get_or-set_other, get_or-take, get_or-append-add, length-take-le, ext_get_or}
-use Rattle.refusal.specs.declared.Reply.TheVariants.{Done, Refused}
 use Rattle.refusal.specs.declared.Refusal.TheVariants.{Buffer}
 use Rattle.refusal.specs.Answer.{reply_of}
 use Rattle.lists.specs.Padded.{padded}
-use Rattle.lists.proofs.Cases.{lt_or_ge, eq_or_ne}
+use Rattle.lists.proofs.Cases.{lt_or_ge}
 use Rattle.lists.proofs.Padded.{replicate_read}
 use Rattle.lists.proofs.Map.{map_take}
 use Rattle.diagram.specs.Table.{Entry, Table}
 use Rattle.diagram.specs.Store.{fresh}
 use Rattle.diagram.specs.Call.{columns, lengths_legal, fresh_call, columns_after}
 use Rattle.diagram.specs.Held.{entries, letter_of, low_of, high_of, HeldIn}
-use Rattle.diagram.proofs.Columns.{Lengths, lengths_record, held_columns}
+use Rattle.diagram.proofs.Columns.{held_columns}
 use Rattle.diagram.proofs.Held.{entries_high, entries_letter, entries_low}
 use Rattle.table.specs.Holds.{Holds, Kept, zero_from}
 
@@ -32,20 +31,6 @@ pub record Clearing (from n : ℕ) (old new : List ℕ) : Type 0 where
 
 pub clearing_none : (from : ℕ) (old : List ℕ) → Clearing from from old old
 clearing_none from old = record { long = refl; passed = omega arith; kept = λ i g. refl; zeros = λ i g k. absurd (omega arith) }
-
-pub clearing_next : {from n : ℕ} {old new : List ℕ} → Clearing from n old new → n < length new → Clearing from (n + 1) old (set new n 0)
-clearing_next {from} {n} {old} {new} c l =
-    let past : from ≤ n = c.passed in
-    record {
-      long = length-set new n 0 ∙ c.long;
-      passed = omega arith;
-      kept = λ i g. get_or-set_other new n i 0 0 (omega arith) ∙ c.kept i g;
-      zeros = λ i g k.
-          ⊎_elim
-          (λ (s : i ≡ n). rw s (get_or-set_same new n 0 0 l))
-          (λ (s : i ≡ n → ⊥). get_or-set_other new n i 0 0 s ∙ c.zeros i g (omega arith))
-          (eq_or_ne i n);
-    }
 
 -- a piece more, wiped
 pub clearing_piece : {from n to : ℕ} {old new piece : List ℕ} → Clearing from n old new → n ≤ to → to ≤ length new → piece ≡ replicate (length (take (to - n) (drop n new))) 0
@@ -94,10 +79,6 @@ clearing_all {from} {n} {old} {new} c end =
     ∙ sym (ap (λ (j : ℕ). get_or (zero_from from old) j 0) place ∙ get_or-append-add (take from old) (replicate (length old - from) 0) (i - from) 0 ∙ replicate_read (length old - from) (i - from) 0))
     (lt_or_ge i from))
 
--- all of it cleared
-pub clearing_whole : {n : ℕ} {old new : List ℕ} → Clearing 0 n old new → length new ≤ n → new ≡ replicate (length old) 0
-clearing_whole {old = old} c end = clearing_all c end ∙ ap (λ (k : ℕ). replicate k 0) (sub-zero (length old))
-
 -- columns in which a table still stands, cleared from its end on, are its columns
 module _ {l w h : List ℕ} {size : ℕ} {t : Table} (k : Kept l w h size t) where
   p : length w ≡ length l
@@ -124,36 +105,14 @@ pub kept_restored : {l w h l₀ w₀ h₀ ix : List ℕ} {t : Table} {used : ℕ
     → columns (zero_from used l) (zero_from used w) (zero_from used h) ≡ columns l₀ w₀ h₀
 kept_restored {l₀ = l₀} {t = t} s k = rw s.long (held_columns (length l₀) t (kept_cleared k) ∙ sym (held_columns (length l₀) t s.is))
 
--- three numbers, then zeros
-pub begun : (v : List ℕ) (a b c : ℕ) → 3 ≤ length v → set (set (set (zero_from 3 v) 0 a) 1 b) 2 c ≡ padded (length v) 0 (a ∷ b ∷ c ∷ [])
-begun [] a b c l = absurd (omega arith)
-begun (x ∷ []) a b c l = absurd (omega arith)
-begun (x ∷ y ∷ []) a b c l = absurd (omega arith)
-begun (x ∷ y ∷ z ∷ v) a b c l = refl
-
--- columns that begin with the numbers of the three terminals hold the fresh table
-pub renewed : (l w h : List ℕ) {l' w' h' : List ℕ}
-    → l' ≡ padded (length l) 0 (4294967295 ∷ 4294967295 ∷ 4294967295 ∷ [])
-    → w' ≡ padded (length w) 0 (0 ∷ 1 ∷ 4294967295 ∷ [])
-    → h' ≡ padded (length h) 0 (0 ∷ 0 ∷ 0 ∷ [])
-    → length w ≡ length l → length h ≡ length l → HeldIn (length l) fresh l' w' h'
-renewed l w h x y z p q = record {
-  letter_is = x;
-  low_is = y ∙ ap (λ (n : ℕ). padded n 0 (0 ∷ 1 ∷ 4294967295 ∷ [])) p;
-  high_is = z ∙ ap (λ (n : ℕ). padded n 0 (0 ∷ 0 ∷ 0 ∷ [])) q;
-}
-
 -- the fresh table, refused and answered
 module _ (l w h : List ℕ) where
-  pub legal_three : lengths_legal (columns l w h) ≡ true → (3 ≤ length l) × (length w ≡ length l) × (length h ≡ length l)
-  legal_three e = let long : Lengths (columns l w h) = lengths_record (columns l w h) e in (long.least, long.low_long, long.high_long)
-
   pub fresh_refused : lengths_legal (columns l w h) ≡ false
-      → (Refused Buffer ≡ reply_of (fresh_call (columns l w h))) × (columns l w h ≡ columns_after (columns l w h) (fresh_call (columns l w h)))
+      → (Err Buffer ≡ reply_of (fresh_call (columns l w h))) × (columns l w h ≡ columns_after (columns l w h) (fresh_call (columns l w h)))
   unfolding fresh_call columns_after
   fresh_refused e = rw e (refl, refl)
 
   pub fresh_done : lengths_legal (columns l w h) ≡ true → (l' w' h' : List ℕ) → HeldIn (length l) fresh l' w' h'
-      → (Done ≡ reply_of (fresh_call (columns l w h))) × (columns l' w' h' ≡ columns_after (columns l w h) (fresh_call (columns l w h)))
+      → (Ok tt ≡ reply_of (fresh_call (columns l w h))) × (columns l' w' h' ≡ columns_after (columns l w h) (fresh_call (columns l w h)))
   unfolding fresh_call columns_after
   fresh_done e l' w' h' g = rw e (refl, held_columns (length l) fresh g)

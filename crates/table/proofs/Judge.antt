@@ -3,34 +3,26 @@ use mathlib.Core.Path.{◌≡◌, sym, ◌∙◌, ap}
 use mathlib.Core.Logic.{⊎_elim}
 use mathlib.Core.List.{List}
 use mathlib.Core.Bool.{Bool, true, false, not, ◌&&◌, cond, true≢false}
-use Prim.Native.Nat.{ℕ, ◌+◌, ◌<◌, ◌≤◌}
+use Prim.Native.Nat.{ℕ, ◌<◌, ◌≤◌}
 use native.Mathlib.Omega.{arith}
 use lib.ListN.{length, get_or, drop}
 use lib.Seq.{get_or-take}
 use lib.Dec.{ltb, eqb}
-use borrow.Author.Tests.{lt-ltb, le-ltb, le-leb, lt-leb, eq-eqb, ne_eqb}
+use borrow.Author.Tests.{le-ltb, le-leb, lt-leb}
 use Rattle.lists.specs.Tests.{below}
 use Rattle.lists.proofs.Cases.{bool_cases, lt_or_ge, and_left, and_right, and_both, true_false}
 use Rattle.lists.proofs.Below.{below_each, each_below}
-use Rattle.diagram.specs.Table.{Entry, Table, blank, terminal_letter, terminal, never, entry_at, same}
+use Rattle.diagram.specs.Table.{Entry, Table, blank, terminal_letter, entry_at}
 use Rattle.diagram.specs.Sound.{part_legal, entry_legal, distinct, fixed_terminals, sound}
 use Rattle.diagram.specs.Held.{all_blank, entries, held, held_sound, high_of, letter_of, low_of}
 use Rattle.diagram.proofs.Sound.{distinct_apart, apart_distinct}
 use Rattle.diagram.proofs.Held.{HeldSound, entries_at, held_length, held_record, held_whole}
 use Rattle.table.specs.Holds.{Sized, Ready, Judged}
-use Rattle.table.specs.Steps.{part_in, three_terminals, entries_legal, Entered, Filled}
+use Rattle.table.specs.Steps.{part_in, three_terminals, entries_legal, Filled}
 
 -- a test that cannot pass fails
 refuted : (x : Bool) → (x ≡ true → ⊥) → false ≡ x
 refuted x no-pass = ⊎_elim (λ (e : x ≡ true). absurd (no-pass e)) (λ (e : x ≡ false). sym e) (bool_cases x)
-
--- a part of an entry
-module _ (l : List ℕ) (i k e : ℕ) where
-  pub part_late : i ≤ e → false ≡ part_in l i k e
-  part_late h = rw (le-ltb e i h)
-
-  pub part_early : e < i → ltb k (get_or l e 0) ≡ part_in l i k e
-  part_early h = rw (lt-ltb e i h)
 
 -- an entry
 module _ (letters : ℕ) (l w h : List ℕ) (i : ℕ) (p : length w ≡ length l) (q : length h ≡ length l) where
@@ -43,29 +35,11 @@ module _ (letters : ℕ) (l w h : List ℕ) (i : ℕ) (p : length w ≡ length l
   high_at : (entry_at (entries l w h) i).high ≡ get_or h i 0
   high_at = ap high_of (entries_at l w h p q i)
 
-  legal_is : entry_legal letters (entries l w h) i ≡ cond (eqb (get_or l i 0) terminal_letter)
+  pub legal_is : entry_legal letters (entries l w h) i ≡ cond (eqb (get_or l i 0) terminal_letter)
       (eqb (get_or h i 0) 0)
       (ltb (get_or l i 0) letters && part_in l i (get_or l i 0) (get_or w i 0) && part_in l i (get_or l i 0) (get_or h i 0) && not (eqb (get_or w i 0) (get_or h i 0)))
   unfolding entry_legal
   legal_is = rw (letter_at_lem i, low_at, high_at, letter_at_lem (get_or w i 0), letter_at_lem (get_or h i 0))
-
-  pub legal_terminal : get_or l i 0 ≡ terminal_letter → eqb (get_or h i 0) 0 ≡ entry_legal letters (entries l w h) i
-  legal_terminal e = rw (legal_is, eq-eqb (get_or l i 0) terminal_letter e)
-
-  module _ (branches : get_or l i 0 ≡ terminal_letter → ⊥) where
-    pub legal_letter : letters ≤ get_or l i 0 → false ≡ entry_legal letters (entries l w h) i
-    legal_letter e = rw (legal_is, ne_eqb (get_or l i 0) terminal_letter branches, le-ltb (get_or l i 0) letters e)
-
-    pub legal_low : get_or l i 0 < letters → part_in l i (get_or l i 0) (get_or w i 0) ≡ false → false ≡ entry_legal letters (entries l w h) i
-    legal_low e f = rw (legal_is, ne_eqb (get_or l i 0) terminal_letter branches, lt-ltb (get_or l i 0) letters e, f)
-
-    pub legal_high : get_or l i 0 < letters → part_in l i (get_or l i 0) (get_or w i 0) ≡ true → part_in l i (get_or l i 0) (get_or h i 0) ≡ false
-        → false ≡ entry_legal letters (entries l w h) i
-    legal_high e f g = rw (legal_is, ne_eqb (get_or l i 0) terminal_letter branches, lt-ltb (get_or l i 0) letters e, f, g)
-
-    pub legal_parts : get_or l i 0 < letters → part_in l i (get_or l i 0) (get_or w i 0) ≡ true → part_in l i (get_or l i 0) (get_or h i 0) ≡ true
-        → not (eqb (get_or w i 0) (get_or h i 0)) ≡ entry_legal letters (entries l w h) i
-    legal_parts e f g = rw (legal_is, ne_eqb (get_or l i 0) terminal_letter branches, lt-ltb (get_or l i 0) letters e, f, g)
 
 -- legality of an entry looks at no later one
 module _ (letters : ℕ) (t u : Table) (i : ℕ) (agree : (j : ℕ) → j ≤ i → entry_at t j ≡ entry_at u j) where
@@ -85,25 +59,6 @@ pub record Filling (letters : ℕ) (l w h : List ℕ) (n : ℕ) (ix : List ℕ) 
   pub ready : Ready l w h ix n
   pub legal : (i : ℕ) → i < n → entry_legal letters (entries l w h) i ≡ true
   pub new : (i j : ℕ) → i < n → j < i → entry_at (entries l w h) j ≡ entry_at (entries l w h) i → ⊥
-
-pub filling_none : {letters : ℕ} {l w h ix : List ℕ} → Ready l w h ix 0 → Filling letters l w h 0 ix
-filling_none r = record { ready = r; legal = λ i g. absurd (omega arith); new = λ i j g. absurd (omega arith) }
-
-pub filling_next : {letters : ℕ} {l w h ix : List ℕ} {n : ℕ} (ix' : List ℕ) (r : Bool) → Filling letters l w h n ix → entry_legal letters (entries l w h) n ≡ true → Entered l w h ix' n r → r ≡ true
-    → Filling letters l w h (n + 1) ix'
-filling_next {letters} {l} {w} {h} {ix} {n} ix' r f e x z = record {
-  ready = x.ready z;
-  legal = λ i g.
-      ⊎_elim
-      (λ (s : i < n). f.legal i s)
-      (λ (s : n ≤ i). let same : i ≡ n = omega arith in rw same e)
-      (lt_or_ge i n);
-  new = λ i j g k q.
-      ⊎_elim
-      (λ (s : i < n). f.new i j s k q)
-      (λ (s : n ≤ i). let same : i ≡ n = omega arith in x.new z j (omega arith) (rw same at q))
-      (lt_or_ge i n);
-}
 
 module _ (letters : ℕ) (l w h : List ℕ) (used : ℕ) (p : length w ≡ length l) (q : length h ≡ length l) (fits : used ≤ length l) where
   long : length (held l w h used) ≡ used
@@ -156,29 +111,25 @@ module _ (letters : ℕ) (l w h : List ℕ) (used : ℕ) (p : length w ≡ lengt
       (lt_or_ge i j)) in
       record { is = sym (and_both _ _ legal apart); ready = λ z. f.ready }
 
--- the first three rows
-module _ (t : Table) where
-  pub three_zeroth : same (entry_at t 0) (terminal 0) ≡ false → false ≡ three_terminals t
-  three_zeroth e = rw e
-
-  pub three_first : same (entry_at t 0) (terminal 0) ≡ true → same (entry_at t 1) (terminal 1) ≡ false → false ≡ three_terminals t
-  three_first d e = rw (d, e)
-
-  pub three_second : same (entry_at t 0) (terminal 0) ≡ true → same (entry_at t 1) (terminal 1) ≡ true → same (entry_at t 2) (terminal never) ≡ three_terminals t
-  three_second d e = rw (d, e)
-
 -- the whole check
 module _ (letters : ℕ) (l w h : List ℕ) (used : ℕ) (ix : List ℕ) where
   no_table : false ≡ held_sound letters l w h used → Judged letters l w h used ix false
   no_table e = record { is = e; holds = λ z. absurd (true≢false (sym z)) }
 
-  pub judged_few : used < 3 → Judged letters l w h used ix false
+  judged_few : used < 3 → Judged letters l w h used ix false
   unfolding held_sound
   judged_few e = no_table (rw (lt-leb 3 used e))
 
-  pub judged_many : 3 ≤ used → length l < used → Judged letters l w h used ix false
+  judged_many : 3 ≤ used → length l < used → Judged letters l w h used ix false
   unfolding held_sound
   judged_many d e = no_table (rw (le-leb 3 used d, lt-leb used (length l) e))
+
+  pub judged_outside : (3 ≤ used → used ≤ length l → ⊥) → Judged letters l w h used ix false
+  judged_outside e =
+      ⊎_elim
+      judged_few
+      (λ (three : 3 ≤ used). ⊎_elim (judged_many three) (λ (fits : used ≤ length l). absurd (e three fits)) (lt_or_ge (length l) used))
+      (lt_or_ge used 3)
 
   module _ (before : List ℕ) (s : Sized l w h before) (three : 3 ≤ used) (fits : used ≤ length l) where
     terminals_are : fixed_terminals (held l w h used) ≡ three_terminals (entries l w h)

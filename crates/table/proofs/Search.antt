@@ -8,7 +8,6 @@ use lib.ListN.{get_or}
 use Rattle.lists.proofs.Cases.{lt_or_ge}
 use Rattle.diagram.specs.Table.{Entry, Table, entry_at}
 use Rattle.table.specs.Index.{bucket, last_in, Indexed}
-use Rattle.table.specs.Holds.{Sought}
 use Rattle.table.proofs.Index.{last_le, last_own, own_bucket, last_above}
 
 -- the search has come down to e, which is 0 or one more than an entry of the bucket; x is not from there on
@@ -56,13 +55,3 @@ module _ {half : ℕ} {t : Table} {n : ℕ} {x : Entry} where
   seeking_less h e some s =
       let below : e ≤ n = s.within in
       omega (arith, h.links (e - 1) (omega arith), last_le half t (e - 1) (bucket half (entry_at t (e - 1))))
-
-  -- found
-  pub seeking_found : (e : ℕ) → (e ≡ 0 → ⊥) → entry_at t (e - 1) ≡ x → Seeking half t n x e → Sought t n x (e - 1)
-  seeking_found e some q s =
-      let below : e ≤ n = s.within in
-      record { within = omega arith; there = λ l. q; missing = λ z. absurd (omega arith) }
-
-  -- at the end of the bucket
-  pub seeking_none : (e : ℕ) → e ≡ 0 → Seeking half t n x e → Sought t n x n
-  seeking_none e none s = record { within = omega arith; there = λ l. absurd (omega arith); missing = λ z i l. s.passed i l (omega arith) }

@@ -4,7 +4,7 @@
 // that the columns and the index hold a table (specs/Holds.antt).
 #![tactic(auto)]
 
-ghost use Rattle.std.specs.Prelude.{◌≡◌, [], ◌∷◌, ◌+◌, ◌/◌, ◌<◌, ◌≤◌, length, drop, replicate};
+ghost use Rattle.std.specs.Prelude.{◌≡◌, [], ◌∷◌, ◌+◌, ◌/◌, ◌<◌, ◌≤◌, length, drop};
 ghost use Rattle.refusal.specs.Answer.{reply_of};
 ghost use Rattle.lists.specs.Padded.{padded};
 ghost use Rattle.diagram.specs.Table.{branch, entry_at, same};
@@ -17,7 +17,7 @@ ghost use Rattle.table.specs.Index.{bucket as bucketOf, linked};
 ghost use Rattle.table.specs.Holds.{Sized, Ready, Holds, Outcome, Sought, Judged, zero_from, Empty, IndexLength};
 ghost use Rattle.table.specs.Steps.{part_in, three_terminals, Entered, Filled};
 
-use refusal::{Refusal, Reply};
+use refusal::Refusal;
 
 // Whether storing goes on, or why it stopped.
 #[derive(Clone, Copy)]
@@ -49,16 +49,7 @@ pub fn lengths_legal(letter: &[u32], low: &[u32], high: &[u32]) -> bool
     ensures { result ≡ lengths_legal (columns letter.now low.now high.now) }
 {
     let n = letter.len();
-    if n < 3 {
-        return false;
-    }
-    if 65536 < n {
-        return false;
-    }
-    if low.len() != n {
-        return false;
-    }
-    high.len() == n
+    (3..=65536).contains(&n) && low.len() == n && high.len() == n
 }
 
 // A length for the index of columns of a size: the least power of two that is twice the size or more.
@@ -66,11 +57,7 @@ pub fn index_len(size: usize) -> usize
     requires { size ≤ 65536 }
     ensures { IndexLength size result }
 {
-    let mut half = 1;
-    while half < size {
-        half = half * 2;
-    }
-    half * 2
+    2 * size.next_power_of_two()
 }
 
 // The bucket of an entry.
@@ -84,17 +71,12 @@ fn bucket(half: usize, k: u32, a: u32, b: u32) -> usize
 }
 
 // Whether row `i` is the entry (k, a, b).
+#[tactic(auto, using(crate::proofs::Rows::row_same))]
 fn is_entry(letter: &[u32], low: &[u32], high: &[u32], i: usize, k: u32, a: u32, b: u32) -> bool
     requires { (i < length letter.now) × (length low.now ≡ length letter.now) × (length high.now ≡ length letter.now) }
     ensures { result ≡ same (entry_at (entries letter.now low.now high.now) i) (branch k a b) }
 {
-    if letter[i] != k {
-        return false;
-    }
-    if low[i] != a {
-        return false;
-    }
-    high[i] == b
+    letter[i] == k && low[i] == a && high[i] == b
 }
 
 // The place of the entry (k, a, b) among the used rows, or `used`.
@@ -201,13 +183,11 @@ fn part_legal(letter: &[u32], i: usize, k: u32, e: u32) -> bool
     ensures { result ≡ part_in letter.now i k e }
 {
     let at = e as usize;
-    if i <= at {
-        return false;
-    }
-    k < letter[at]
+    at < i && k < letter[at]
 }
 
 // Whether row `i` is a legal entry.
+#[tactic(auto, using(crate::proofs::Judge::legal_is))]
 fn entry_legal(letters: u32, letter: &[u32], low: &[u32], high: &[u32], i: usize) -> bool
     requires { (i < length letter.now) × (length low.now ≡ length letter.now) × (length high.now ≡ length letter.now) }
     ensures { result ≡ entry_legal letters (entries letter.now low.now high.now) i }
@@ -218,16 +198,7 @@ fn entry_legal(letters: u32, letter: &[u32], low: &[u32], high: &[u32], i: usize
     if k == 4294967295 {
         return b == 0;
     }
-    if letters <= k {
-        return false;
-    }
-    if !part_legal(letter, i, k, a) {
-        return false;
-    }
-    if !part_legal(letter, i, k, b) {
-        return false;
-    }
-    a != b
+    k < letters && part_legal(letter, i, k, a) && part_legal(letter, i, k, b) && a != b
 }
 
 // Puts row `at` into the index, unless an earlier row equals it.
@@ -260,15 +231,13 @@ fn fill(
     requires { Ready letter.now low.now high.now index.old 0 × (used ≤ length letter.now) }
     ensures { Filled letters letter.now low.now high.now used index.new result }
 {
-    let mut i: u32 = 0;
-    while i < used {
+    for i in 0..used {
         if !entry_legal(letters, letter, low, high, i as usize) {
             return false;
         }
         if !enter(letter, low, high, index, i) {
             return false;
         }
-        i += 1;
     }
     true
 }
@@ -278,13 +247,9 @@ fn three_terminals(letter: &[u32], low: &[u32], high: &[u32]) -> bool
     requires { (3 ≤ length letter.now) × (length low.now ≡ length letter.now) × (length high.now ≡ length letter.now) }
     ensures { result ≡ three_terminals (entries letter.now low.now high.now) }
 {
-    if !is_entry(letter, low, high, 0, 4294967295, 0, 0) {
-        return false;
-    }
-    if !is_entry(letter, low, high, 1, 4294967295, 1, 0) {
-        return false;
-    }
-    is_entry(letter, low, high, 2, 4294967295, 4294967295, 0)
+    is_entry(letter, low, high, 0, 4294967295, 0, 0)
+        && is_entry(letter, low, high, 1, 4294967295, 1, 0)
+        && is_entry(letter, low, high, 2, 4294967295, 4294967295, 0)
 }
 
 // Whether all rows from a place on are zero. With no way out of the loop before its end, several rows are taken at once.
@@ -293,10 +258,8 @@ fn blank_from(letter: &[u32], low: &[u32], high: &[u32], from: usize) -> bool
     ensures { result ≡ all_blank (drop from (entries letter.now low.now high.now)) }
 {
     let mut bits = 0;
-    let mut i = from;
-    while i < letter.len() {
-        bits = bits | letter[i] | low[i] | high[i];
-        i += 1;
+    for i in from..letter.len() {
+        bits |= letter[i] | low[i] | high[i];
     }
     bits == 0
 }
@@ -314,41 +277,10 @@ pub fn sound(
     ensures { Judged letters letter.now low.now high.now used index.new result }
 {
     let n = used as usize;
-    if used < 3 {
-        return false;
-    }
-    if letter.len() < n {
-        return false;
-    }
-    if !three_terminals(letter, low, high) {
-        return false;
-    }
-    if !fill(letters, letter, low, high, used, index) {
-        return false;
-    }
-    blank_from(letter, low, high, n)
-}
-
-// Zeros in all of a column.
-fn wipe(column: &mut [u32])
-    ensures { column.new ≡ replicate (length column.old) 0 }
-{
-    let mut i = 0;
-    while i < column.len() {
-        column[i] = 0;
-        i += 1;
-    }
-}
-
-// Where the piece of a column that starts at a place ends: 512 numbers on, or at the column's end.
-fn piece_end(from: usize, len: usize) -> usize
-    requires { from < len }
-    ensures { (from < result) × (result ≤ len) }
-{
-    if len - from < 512 {
-        return len;
-    }
-    from + 512
+    (3..=letter.len()).contains(&n)
+        && three_terminals(letter, low, high)
+        && fill(letters, letter, low, high, used, index)
+        && blank_from(letter, low, high, n)
 }
 
 // Zeros in a column from a place on, in short pieces, which take fewer instructions than one long run of zeros.
@@ -356,9 +288,10 @@ pub fn clear_column(column: &mut [u32], from: usize)
     ensures { column.new ≡ zero_from from column.old }
 {
     let mut i = from;
+    // A `while`: of what `chunks_mut` has lent, a proof knows afterwards only how much it was.
     while i < column.len() {
-        let to = piece_end(i, column.len());
-        wipe(&mut column[i..to]);
+        let to = i + (column.len() - i).min(512);
+        column[i..to].fill(0);
         i = to;
     }
 }
@@ -395,12 +328,12 @@ pub fn renew(letter: &mut [u32], low: &mut [u32], high: &mut [u32])
 }
 
 // Makes the lent table fresh.
-pub fn fresh(letter: &mut [u32], low: &mut [u32], high: &mut [u32]) -> Reply
+pub fn fresh(letter: &mut [u32], low: &mut [u32], high: &mut [u32]) -> Result<(), Refusal>
     ensures { (result ≡ reply_of (fresh_call (columns letter.old low.old high.old))) × (columns letter.new low.new high.new ≡ columns_after (columns letter.old low.old high.old) (fresh_call (columns letter.old low.old high.old))) }
 {
     if !lengths_legal(letter, low, high) {
-        return Reply::Refused(Refusal::Buffer);
+        return Err(Refusal::Buffer);
     }
     renew(letter, low, high);
-    Reply::Done
+    Ok(())
 }

@@ -1,5 +1,5 @@
 -- Laws of lines one behind the other, and of a loop that writes them.
-use mathlib.Core.Path.{◌≡◌, refl, sym, ◌∙◌, ap, ap₂}
+use mathlib.Core.Path.{◌≡◌, refl, sym, ◌∙◌, ap₂}
 use mathlib.Core.Logic.{⊎_elim}
 use mathlib.Core.List.{List, [], ◌++◌, append-nil}
 use Prim.Native.Nat.{ℕ, zero, suc, ◌+◌, ◌*◌, ◌≤◌, ◌<◌}
@@ -9,7 +9,7 @@ use native.Mathlib.Omega.{arith}
 use lib.ListN.{length, take, length-append, take-append-drop}
 use Rattle.lists.proofs.Cases.{lt_or_ge}
 use Rattle.text.specs.Lines.{lines_of}
-use Rattle.text.specs.Written.{written, Wrote}
+use Rattle.text.specs.Written.{Wrote}
 use Rattle.text.proofs.Written.{wrote_then, wrote_room, wrote_length}
 
 -- lines that agree

@@ -1,18 +1,20 @@
 -- Laws of a number read from a text; what decimal writes is read back.
 use mathlib.Core.Path.{◌≡◌, refl, sym, ◌∙◌, ap}
 use mathlib.Core.Logic.{⊎_elim}
-use mathlib.Core.Bool.{true, false, cond, and-false}
+use mathlib.Core.Bool.{true, false, cond}
 use mathlib.Core.List.{List, [], ◌∷◌, ◌++◌}
 use Prim.Native.Nat.{ℕ, zero, suc, ◌+◌, ◌-◌, ◌*◌, ◌/◌, ◌%◌, ◌^◌, ◌<◌, ◌≤◌}
 use native.Mathlib.Nat.{le_refl, le_trans}
 use native.Mathlib.Numerals.{add-one}
 use native.Mathlib.Omega.{arith}
-use lib.Dec.{leb}
 use lib.ListN.{length, get_or, drop, drop_of_length-le}
 use lib.Seq.{drop-cons}
-use borrow.Author.Tests.{lt-ltb, le-ltb, le-leb, lt-leb}
+use borrow.Author.Tests.{lt-ltb, le-ltb, le-leb}
 use Rattle.lists.proofs.Cases.{lt_or_ge, and_left, and_right, and_both}
-use Rattle.text.specs.declared.Parsed.TheVariants.{Number, Large, Other}
+use Rattle.std.specs.Prelude.{Result, Ok, Err, OkIff}
+use Rattle.std.specs.Result.{result_or}
+use Rattle.std.specs.declared.num.TryFromIntError.{TryFromIntError}
+use Rattle.text.specs.declared.ParseError.TheVariants.{Large, Other}
 use Rattle.text.specs.Decimal.{decimal}
 use Rattle.text.specs.Number.{is_digit, all_digits, value_from, sized, parsed_from, parsed, with_digit}
 use Rattle.text.proofs.Decimal.{decimal_digit, decimal_more, decimal_count}
@@ -74,7 +76,7 @@ pub decimal_one : (m n : ℕ) → decimal m ≡ decimal n → m ≡ n
 decimal_one m n e = sym (decimal_value m) ∙ ap (value_from 0) e ∙ decimal_value n
 
 -- no text is a number
-pub parsed_none : (text : List ℕ) → length text ≡ 0 → Other ≡ parsed text
+pub parsed_none : (text : List ℕ) → length text ≡ 0 → Err Other ≡ parsed text
 unfolding parsed
 parsed_none [] h = refl
 parsed_none (b ∷ bs) h = absurd (omega arith)
@@ -85,23 +87,18 @@ parsed_some [] h = absurd (h refl)
 parsed_some (b ∷ bs) h = refl
 
 -- a turn of the loop that reads: a byte that is no digit, a digit, the end
-from_bad : (v b : ℕ) (bs : List ℕ) → is_digit b ≡ false → Other ≡ parsed_from v (b ∷ bs)
+from_bad : (v b : ℕ) (bs : List ℕ) → is_digit b ≡ false → Err Other ≡ parsed_from v (b ∷ bs)
 unfolding parsed_from all_digits
 from_bad v b bs e = rw e
 
-pub from_low : (text : List ℕ) (v i : ℕ) → i < length text → get_or text i 0 < 48 → Other ≡ parsed_from v (drop i text)
-from_low text v i h g =
-    rw (drop-cons text i 0 h) (from_bad v (get_or text i 0) (drop (suc i) text) (rw (lt-leb 48 (get_or text i 0) g)))
-
-pub from_high : (text : List ℕ) (v i : ℕ) → i < length text → 57 < get_or text i 0 → Other ≡ parsed_from v (drop i text)
-from_high text v i h g =
-    rw (drop-cons text i 0 h) (from_bad v (get_or text i 0) (drop (suc i) text) (rw (lt-leb (get_or text i 0) 57 g) (and-false (leb 48 (get_or text i 0)))))
+pub from_other : (text : List ℕ) (v i : ℕ) → i < length text → is_digit (get_or text i 0) ≡ false → Err Other ≡ parsed_from v (drop i text)
+from_other text v i h g = rw (drop-cons text i 0 h) (from_bad v (get_or text i 0) (drop (suc i) text) g)
 
 -- a value by its size
-sized_large : (v : ℕ) → 2 ^ 32 ≤ v → Large ≡ sized v
+sized_large : (v : ℕ) → 2 ^ 32 ≤ v → Err Large ≡ sized v
 sized_large v h = rw (le-ltb v (2 ^ 32) h)
 
-sized_number : (v : ℕ) → v < 2 ^ 32 → Number v ≡ sized v
+sized_number : (v : ℕ) → v < 2 ^ 32 → Ok v ≡ sized v
 sized_number v h = rw (lt-ltb v (2 ^ 32) h)
 
 -- a value that is beyond 32 bits decides, whatever digits follow
@@ -113,13 +110,12 @@ from_digit v b bs e =
     (λ (s : 2 ^ 32 ≤ v).
     let more = value_grows (v * 10 + (b - 48)) bs in
     let same = sym (sized_large (value_from (v * 10 + (b - 48)) bs) (omega arith)) ∙ sized_large (value_from v bs) (omega (arith, value_grows v bs)) in
-    rw (e, le-ltb v (2 ^ 32) s) (ap (λ x. cond (all_digits bs) x Other) same))
+    rw (e, le-ltb v (2 ^ 32) s) (ap (λ x. cond (all_digits bs) x (Err Other)) same))
     (lt_or_ge v (2 ^ 32))
 
-pub from_more : (text : List ℕ) (v i : ℕ) → i < length text → 48 ≤ get_or text i 0 → get_or text i 0 ≤ 57
+pub from_more : (text : List ℕ) (v i : ℕ) → i < length text → is_digit (get_or text i 0) ≡ true
     → parsed_from v (drop i text) ≡ parsed_from (with_digit v (get_or text i 0)) (drop (i + 1) text)
-from_more text v i h g l =
-    rw (add-one, drop-cons text i 0 h) (from_digit v (get_or text i 0) (drop (suc i) text) (rw (le-leb 48 (get_or text i 0) g, le-leb (get_or text i 0) 57 l)))
+from_more text v i h g = rw (add-one, drop-cons text i 0 h) (from_digit v (get_or text i 0) (drop (suc i) text) g)
 
 pub with_digit_kept : (v b : ℕ) → 2 ^ 32 ≤ v → v ≡ with_digit v b
 with_digit_kept v b h = rw (le-ltb v (2 ^ 32) h)
@@ -142,11 +138,17 @@ from_end v = refl
 from_done : (text : List ℕ) (v i : ℕ) → length text ≤ i → sized v ≡ parsed_from v (drop i text)
 from_done text v i h = rw (drop_of_length-le text {i = i} h) (from_end v)
 
-pub from_number : (text : List ℕ) (v i : ℕ) → length text ≤ i → v < 2 ^ 32 → Number v ≡ parsed_from v (drop i text)
+from_number : (text : List ℕ) (v i : ℕ) → length text ≤ i → v < 2 ^ 32 → Ok v ≡ parsed_from v (drop i text)
 from_number text v i h g = sized_number v g ∙ from_done text v i h
 
-pub from_large : (text : List ℕ) (v i : ℕ) → length text ≤ i → 2 ^ 32 ≤ v → Large ≡ parsed_from v (drop i text)
+from_large : (text : List ℕ) (v i : ℕ) → length text ≤ i → 2 ^ 32 ≤ v → Err Large ≡ parsed_from v (drop i text)
 from_large text v i h g = sized_large v g ∙ from_done text v i h
+
+-- the value at the end, as 32 bits or not
+pub from_whole : (text : List ℕ) (v i : ℕ) → length text ≤ i → (whole : Result ℕ TryFromIntError) → OkIff whole (v < 2 ^ 32) v
+    → result_or whole (Err Large) ≡ parsed_from v (drop i text)
+from_whole text v i h (Ok n) e = ap Ok e.1 ∙ from_number text v i h e.0
+from_whole text v i h (Err e) n = from_large text v i h (omega arith)
 
 -- what decimal writes is read back
 decimal_some : (n : ℕ) → length (decimal n) ≡ 0 → ⊥
@@ -156,10 +158,10 @@ decimal_some n e =
     (λ (s : 10 ≤ n). omega (arith, decimal_count n s))
     (lt_or_ge n 10)
 
-pub decimal_parsed : (n : ℕ) → n < 2 ^ 32 → parsed (decimal n) ≡ Number n
+pub decimal_parsed : (n : ℕ) → n < 2 ^ 32 → parsed (decimal n) ≡ Ok n
 unfolding parsed_from
 decimal_parsed n h = sym (parsed_some (decimal n) (decimal_some n)) ∙ rw (decimal_digits n, decimal_value n, lt-ltb n (2 ^ 32) h)
 
-pub decimal_large : (n : ℕ) → 2 ^ 32 ≤ n → parsed (decimal n) ≡ Large
+pub decimal_large : (n : ℕ) → 2 ^ 32 ≤ n → parsed (decimal n) ≡ Err Large
 unfolding parsed_from
 decimal_large n h = sym (parsed_some (decimal n) (decimal_some n)) ∙ rw (decimal_digits n, decimal_value n, le-ltb n (2 ^ 32) h)

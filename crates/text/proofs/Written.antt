@@ -3,10 +3,9 @@ use mathlib.Core.Path.{◌≡◌, refl, sym, ◌∙◌, ap}
 use mathlib.Core.List.{List, [], ◌∷◌, ◌++◌, append_assoc}
 use Prim.Native.Nat.{ℕ, ◌+◌, ◌<◌, ◌≤◌}
 use native.Mathlib.Nat.{add_assoc}
-use native.Mathlib.Numerals.{add-one}
 use native.Mathlib.Omega.{arith}
-use lib.ListN.{length, take, drop, set, get_or, length-append, length-drop}
-use lib.Seq.{length-take-le, take_at, drop_at, drop-drop, sets-eq, paste, paste-suc, take-length}
+use lib.ListN.{length, take, drop, set, length-append, length-drop}
+use lib.Seq.{length-take-le, take_at, drop_at, drop-drop, sets-eq}
 use Rattle.text.specs.Written.{written, Wrote}
 
 -- what stands before the end of the bytes
@@ -55,14 +54,3 @@ wrote_room {a} {b} {x} {at} {m} y w h =
 -- a store of one byte
 pub wrote_byte : (out : List ℕ) (at byte : ℕ) → at < length out → Wrote out (set out at byte) at (byte ∷ []) (at + 1)
 wrote_byte out at byte h = record { end_is = refl; is = sets-eq (byte ∷ []) out at (omega arith) }
-
--- a turn of the loop that copies
-pub paste_more : (a : List ℕ) (at : ℕ) (bytes b : List ℕ) (i : ℕ) → b ≡ paste a at bytes i → at + length bytes ≤ length a → i < length bytes
-    → set b (at + i) (get_or bytes i 0) ≡ paste a at bytes (i + 1)
-paste_more a at bytes b i e h g = rw (e, add-one) (paste-suc a at bytes i 0 (omega arith) g)
-
--- and its end
-pub wrote_all : {a b bytes : List ℕ} {at i : ℕ} → b ≡ paste a at bytes i → i ≤ length bytes → length bytes ≤ i → Wrote a b at bytes (at + i)
-wrote_all {a} {b} {bytes} {at} {i} e h g =
-    let l : i ≡ length bytes = omega arith in
-    record { end_is = ap (λ (n : ℕ). at + n) l; is = e ∙ ap (paste a at bytes) l ∙ ap (λ (x : List ℕ). take at a ++ x ++ drop (at + length bytes) a) (take-length bytes) }

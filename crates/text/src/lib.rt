@@ -20,12 +20,9 @@ pub fn put_bytes(out: &mut [u8], at: usize, bytes: &[u8]) -> usize
     requires { at + length bytes.now ≤ length out.old }
     ensures { Wrote out.old out.new at bytes.now result }
 {
-    let mut i: usize = 0;
-    while i < bytes.len() {
-        out[at + i] = bytes[i];
-        i += 1;
-    }
-    at + i
+    let end = at + bytes.len();
+    out[at..end].copy_from_slice(bytes);
+    end
 }
 
 // The digits of a number of 64 bits, the most significant first.
@@ -65,10 +62,9 @@ pub fn put_ended(out: &mut [u8], at: usize, n: u32) -> usize
     put_byte(out, end, b'\n')
 }
 
-// A number within 32 bits, a larger one, or any other text.
-#[derive(Clone, Copy)]
-pub enum Parsed {
-    Number(u32),
+// Why a text is no number within 32 bits: it is a larger one, or another text.
+#[derive(Clone, Copy, Debug, PartialEq, Eq)]
+pub enum ParseError {
     Large,
     Other,
 }
@@ -84,27 +80,18 @@ fn with_digit(value: u64, byte: u8) -> u64
     value * 10 + (byte - 48) as u64
 }
 
-pub fn parse(text: &[u8]) -> Parsed
+pub fn parse(text: &[u8]) -> Result<u32, ParseError>
     ensures { result ≡ parsed text.now }
 {
-    if text.len() == 0 {
-        return Parsed::Other;
+    if text.is_empty() {
+        return Err(ParseError::Other);
     }
     let mut value: u64 = 0;
-    let mut i: usize = 0;
-    while i < text.len() {
-        let byte = text[i];
-        if byte < 48 {
-            return Parsed::Other;
+    for byte in text {
+        if !byte.is_ascii_digit() {
+            return Err(ParseError::Other);
         }
-        if 57 < byte {
-            return Parsed::Other;
-        }
-        value = with_digit(value, byte);
-        i += 1;
+        value = with_digit(value, *byte);
     }
-    if 4294967295 < value {
-        return Parsed::Large;
-    }
-    Parsed::Number(value as u32)
+    u32::try_from(value).or(Err(ParseError::Large))
 }

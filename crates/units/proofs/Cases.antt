@@ -3,8 +3,8 @@ use mathlib.Core.Path.{◌≡◌, refl}
 use Prim.Native.Nat.{◌-◌, ◌^◌, ◌<◌}
 use native.Mathlib.Omega.{arith}
 use Rattle.units.specs.declared.Resistance.TheVariants.{Infinite, Finite}
-use Rattle.units.specs.Units.{ohms, femtofarads, picoseconds}
-use Rattle.units.specs.declared.Bounded.TheVariants.{Within, Exceeds}
+use Rattle.units.specs.Units.{ohms, femtofarads, picoseconds, above_ceiling}
+use Rattle.std.specs.Prelude.{Ok, Err}
 use Rattle.units.specs.Rules.{ceil_div, ceiling, bounded, parallel, arm_side, delay}
 
 -- (a): two of 1 ohm, rounded up
@@ -18,12 +18,12 @@ unfolding parallel ceil_div
 case_b = (refl, refl)
 
 -- an arm's side of exactly the ceiling is answered; one more ohm exceeds
-pub case_ceiling : (bounded (arm_side (ohms 1) (Finite (ohms (ceiling - 1))) Infinite) ≡ Within (Finite (ohms ceiling))) × (bounded (arm_side (ohms 1) (Finite (ohms ceiling)) Infinite) ≡ Exceeds)
+pub case_ceiling : (bounded (arm_side (ohms 1) (Finite (ohms (ceiling - 1))) Infinite) ≡ Ok (Finite (ohms ceiling))) × (bounded (arm_side (ohms 1) (Finite (ohms ceiling)) Infinite) ≡ Err above_ceiling)
 unfolding arm_side
 case_ceiling = (refl, refl)
 
 -- infinite does not
-pub case_infinite : bounded (arm_side (ohms 1) Infinite (Finite (ohms ceiling))) ≡ Within Infinite
+pub case_infinite : bounded (arm_side (ohms 1) Infinite (Finite (ohms ceiling))) ≡ Ok Infinite
 unfolding arm_side
 case_infinite = refl
 

@@ -1,6 +1,6 @@
 -- Laws of the arithmetic of step rules 4 to 6. Those of division rounded up stand in Rounding.
-use mathlib.Core.Path.{◌≡◌, refl, sym, ap, subst, subst₂}
-use mathlib.Core.Bool.{Bool, true, false}
+use mathlib.Core.Path.{◌≡◌, refl, ap, subst₂}
+use mathlib.Core.Bool.{false}
 use Prim.Native.Nat.{ℕ, suc, ◌+◌, ◌*◌, ◌-◌, ◌^◌, ◌≤◌, ◌<◌, max}
 use native.Mathlib.Nat.{add_comm, mul_comm, mul-pos, le_trans, le_refl}
 use native.Mathlib.Omega.{arith}
@@ -9,20 +9,14 @@ use Rattle.units.specs.declared.Ohms.{Ohms}
 use Rattle.units.specs.declared.Femtofarads.{Femtofarads}
 use Rattle.units.specs.declared.Resistance.{Resistance}
 use Rattle.units.specs.declared.Resistance.TheVariants.{Infinite, Finite}
-use Rattle.units.specs.declared.Bounded.{Bounded}
-use Rattle.units.specs.declared.Bounded.TheVariants.{Within, Exceeds}
 use Rattle.units.specs.Units.{ohms, femtofarads}
-use Rattle.units.specs.Rules.{ceil_div, ceiling, above, bounded, parallel, arm_side, delay_arm, share, delay}
+use Rattle.units.specs.Rules.{ceil_div, ceiling, above, parallel, arm_side, delay_arm, share, delay}
 use Rattle.units.specs.Range.{AtLeast, AtMost, Positive, Divisible}
 use Rattle.units.proofs.Rounding.{ceil_div_least, ceil_div_factor, ceil_div_positive, ceil_div_at_most, product_within}
 
 -- a finite resistance is never infinite
 pub finite_not_infinite : {a : Ohms} → Finite a ≡ Infinite → ⊥
 finite_not_infinite e = let z : ◌≡◌ {A = ℕ} 0 1 = cc in omega arith
-
--- the ohms of a resistance that is positive and finite
-pub positive_at : {a : Resistance} {b : Ohms} → a ≡ Finite b → Positive a → 1 ≤ b.0
-positive_at e h = subst Positive e h
 
 -- the ohms of a finite divisor of a finite resistance
 pub divisor_at : {a b : Resistance} {s o : Ohms} → a ≡ Finite s → b ≡ Finite o → Divisible a b → 1 ≤ o.0
@@ -184,27 +178,3 @@ pub delay_within : (r : Ohms) (c : Femtofarads) → r.0 < 2 ^ 32 → c.0 < 2 ^ 3
 unfolding delay
 delay_within r c p h =
     omega (arith, ceil_div_least {a = r.0 * c.0} {c = 2 ^ 55 - 1} 1000 (omega (arith, product_within {a = r.0} {b = c.0} (omega arith) h)))
-
-within_not_exceeds : {r : Resistance} → Within r ≡ Exceeds → ⊥
-within_not_exceeds e = let z : ◌≡◌ {A = ℕ} 0 1 = cc in omega arith
-
--- the result of an operation that gives one
-abbrev payload : Bounded → Resistance
-payload (Within r) = r
-payload Exceeds = Infinite
-
--- an operation that says it exceeds has a result above the ceiling
-pub bounded_exceeds : (r : Resistance) → bounded r ≡ Exceeds → above r ≡ true
-bounded_exceeds r e = by (above r) refl
-  where
-    by : (b : Bool) → above r ≡ b → above r ≡ true
-    by true p = p
-    by false p = let z : Within r ≡ Exceeds = rw p at e in absurd (within_not_exceeds z)
-
--- one that gives a result gives its own, which is not above the ceiling
-pub bounded_within : (r : Resistance) {x : Resistance} → bounded r ≡ Within x → (x ≡ r) × (above r ≡ false)
-bounded_within r {x} e = by (above r) refl
-  where
-    by : (b : Bool) → above r ≡ b → (x ≡ r) × (above r ≡ false)
-    by true p = let z : Exceeds ≡ Within x = rw p at e in absurd (within_not_exceeds (sym z))
-    by false p = let z : Within r ≡ Within x = rw p at e in (sym (ap payload z), p)

@@ -2,6 +2,9 @@
 use Prim.Native.Nat.{ℕ, zero, suc, ◌+◌, ◌-◌, ◌*◌, ◌^◌, ◌≤◌, ◌<◌, zero-le}
 use native.Mathlib.Nat.{lt-div-mul-add, div-lt_iff_lt-mul, div-zero, suc-mul, zero-mul, add-mul, mul-le-mul, mul-le-mul_left, le-mul_of_pos_right, lt_of_mul-lt-mul_right, le_trans}
 use native.Mathlib.Omega.{arith}
+use mathlib.Core.Path.{◌≡◌}
+use Rattle.std.specs.Int.{div_ceil}
+use Rattle.std.proofs.lemmas.Grind.{div_ceil_times}
 use Rattle.units.specs.Rules.{ceil_div}
 
 -- no number that covers the dividend is smaller than the quotient; also where the divisor is 0, the quotient being 0 then
@@ -36,6 +39,14 @@ module _ {b : ℕ} (pos : 1 ≤ b) where
   -- that of a sum, or of less, is at most the two together
   pub ceil_div_sum : (a d : ℕ) {e : ℕ} → e ≤ a + d → ceil_div e b ≤ ceil_div a b + ceil_div d b
   ceil_div_sum a d h = ceil_div_least b (omega (arith, ceil_div_covers a, ceil_div_covers d, add-mul (ceil_div a b) (ceil_div d b) b))
+
+  -- the library's `div_ceil` is the same number
+  pub div_ceil_same : (a : ℕ) → div_ceil a b ≡ ceil_div a b
+  div_ceil_same a =
+      let times = div_ceil_times a b pos in
+      let least : ceil_div a b ≤ div_ceil a b = ceil_div_least b times.0 in
+      let most : div_ceil a b < suc (ceil_div a b) = lt_of_mul-lt-mul_right b (omega (arith, times.1, ceil_div_covers a, suc-mul (ceil_div a b) b)) in
+      omega arith
 
 -- the product of two numbers of 32 bits
 pub product_within : {a b : ℕ} → a < 2 ^ 32 → b < 2 ^ 32 → a * b ≤ (2 ^ 32 - 1) * (2 ^ 32 - 1)

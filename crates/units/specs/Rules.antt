@@ -1,13 +1,12 @@
 -- The arithmetic of document 01's step rules 4 to 7, as document 02's wish 3 amends it: nothing is capped.
-use Rattle.std.specs.Prelude.{ℕ, ◌+◌, ◌-◌, ◌*◌, ◌/◌, max, Bool, false, cond, ltb}
+use Rattle.std.specs.Prelude.{ℕ, ◌+◌, ◌-◌, ◌*◌, ◌/◌, max, Bool, false, cond, Result, Ok, Err, ltb}
 use Rattle.units.specs.declared.Ohms.{Ohms}
 use Rattle.units.specs.declared.Femtofarads.{Femtofarads}
 use Rattle.units.specs.declared.Picoseconds.{Picoseconds}
 use Rattle.units.specs.declared.Resistance.{Resistance}
 use Rattle.units.specs.declared.Resistance.TheVariants.{Infinite, Finite}
-use Rattle.units.specs.declared.Bounded.{Bounded}
-use Rattle.units.specs.declared.Bounded.TheVariants.{Within, Exceeds}
-use Rattle.units.specs.Units.{ohms, femtofarads, picoseconds}
+use Rattle.units.specs.declared.AboveCeiling.{AboveCeiling}
+use Rattle.units.specs.Units.{ohms, femtofarads, picoseconds, above_ceiling}
 
 -- a / b, rounded up
 unfoldable pub ceil_div : ℕ → ℕ → ℕ
@@ -23,8 +22,8 @@ above Infinite = false
 above (Finite a) = ltb ceiling a.0
 
 -- what an operation says of its result: the result itself, or that it would exceed the ceiling
-abbrev pub bounded : Resistance → Bounded
-bounded r = cond (above r) Exceeds (Within r)
+abbrev pub bounded : Resistance → Result Resistance AboveCeiling
+bounded r = cond (above r) (Err above_ceiling) (Ok r)
 
 -- Rule 4: two resistances in parallel, infinite being neutral
 unfoldable pub parallel : Resistance → Resistance → Resistance

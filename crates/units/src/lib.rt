@@ -9,7 +9,7 @@ ghost use Rattle.units.specs.Units.{ohms};
 ghost use Rattle.units.specs.Range.{AtMost, Positive, Divisible};
 ghost use Rattle.units.specs.Rules.{ceil_div, ceiling, bounded as boundedOf, arm_side, delay_arm, parallel as parallelOf, joined as joinedOf, later as laterOf, share as share_of, delay as delay_of};
 
-#[derive(Clone, Copy)]
+#[derive(Clone, Copy, PartialEq, Eq, Debug)]
 pub struct Ohms(pub u32);
 
 impl Ohms {
@@ -17,10 +17,10 @@ impl Ohms {
     pub const CEILING: u32 = 1000000000;
 }
 
-#[derive(Clone, Copy)]
+#[derive(Clone, Copy, PartialEq, Eq, Debug)]
 pub struct Femtofarads(pub u32);
 
-#[derive(Clone, Copy)]
+#[derive(Clone, Copy, PartialEq, Eq, Debug)]
 pub struct Picoseconds(pub u64);
 
 impl Picoseconds {
@@ -34,18 +34,16 @@ impl Picoseconds {
 }
 
 // The resistance from a node to a value: infinite where nothing leads there.
-#[derive(Clone, Copy)]
+// An enum, no `Option<Ohms>`: infinite is a value that the rules reckon with, by laws of its own, and no missing answer, as `None` would say.
+#[derive(Clone, Copy, PartialEq, Eq, Debug)]
 pub enum Resistance {
     Infinite,
     Finite(Ohms),
 }
 
-// What an arm says of a side: its resistance, or that this would exceed the ceiling.
-#[derive(Clone, Copy)]
-pub enum Bounded {
-    Within(Resistance),
-    Exceeds,
-}
+// What an arm says of a side whose resistance would exceed the ceiling.
+#[derive(Clone, Copy, PartialEq, Eq, Debug)]
+pub struct AboveCeiling;
 
 impl Resistance {
     // Two resistances in parallel.
@@ -58,7 +56,9 @@ impl Resistance {
             Resistance::Finite(a) => match other {
                 Resistance::Infinite => Resistance::Finite(a),
                 Resistance::Finite(b) => {
-                    Resistance::Finite(Ohms(scaled(a.0, b.0, (a.0 as u64) + (b.0 as u64)) as u32))
+                    Resistance::Finite(Ohms(
+                        scaled(a.0, b.0, u64::from(a.0) + u64::from(b.0)) as u32,
+                    ))
                 }
             },
         }
@@ -76,16 +76,16 @@ impl Femtofarads {
 }
 
 // One side of an arm: a transistor of resistance r before a node sum of which `side` is the same side and `other` the other one.
-pub fn arm_side(r: Ohms, side: Resistance, other: Resistance) -> Bounded
+pub fn arm_side(r: Ohms, side: Resistance, other: Resistance) -> Result<Resistance, AboveCeiling>
     requires { Divisible side other }
     ensures { result ≡ boundedOf (arm_side r side other) }
 {
     match side {
-        Resistance::Infinite => Bounded::Within(Resistance::Infinite),
+        Resistance::Infinite => Ok(Resistance::Infinite),
         Resistance::Finite(s) => match other {
-            Resistance::Infinite => within_ceiling((s.0 as u64) + (r.0 as u64)),
+            Resistance::Infinite => within_ceiling(u64::from(s.0) + u64::from(r.0)),
             Resistance::Finite(o) => within_ceiling(
-                (s.0 as u64) + (r.0 as u64) + scaled(r.0, s.0, o.0 as u64),
+                u64::from(s.0) + u64::from(r.0) + scaled(r.0, s.0, u64::from(o.0)),
             ),
         },
     }
@@ -110,7 +110,7 @@ pub fn share(r: Ohms, far: Resistance, charge: Femtofarads) -> Femtofarads
     match far {
         Resistance::Infinite => charge,
         Resistance::Finite(f) => {
-            Femtofarads(scaled(charge.0, f.0, (f.0 as u64) + (r.0 as u64)) as u32)
+            Femtofarads(scaled(charge.0, f.0, u64::from(f.0) + u64::from(r.0)) as u32)
         }
     }
 }
@@ -119,28 +119,24 @@ pub fn share(r: Ohms, far: Resistance, charge: Femtofarads) -> Femtofarads
 pub fn delay(r: Ohms, charge: Femtofarads) -> Picoseconds
     ensures { result ≡ delay_of r charge }
 {
-    let d = scaled(r.0, charge.0, 1000);
-    if 1 < d {
-        return Picoseconds(d);
-    }
-    Picoseconds(1)
+    Picoseconds(scaled(r.0, charge.0, 1000).max(1))
 }
 
 // A number of ohms, unless it exceeds the ceiling.
-fn within_ceiling(n: u64) -> Bounded
+fn within_ceiling(n: u64) -> Result<Resistance, AboveCeiling>
     ensures { result ≡ boundedOf (Finite (ohms n)) }
 {
     let most = Ohms::CEILING;
-    if n <= most as u64 {
-        return Bounded::Within(Resistance::Finite(Ohms(n as u32)));
+    if n <= u64::from(most) {
+        return Ok(Resistance::Finite(Ohms(n as u32)));
     }
-    Bounded::Exceeds
+    Err(AboveCeiling)
 }
 
-// a * b / c, rounded up. At the largest a, b and c the dividend is the largest number of 64 bits.
+// a * b / c, rounded up.
 fn scaled(a: u32, b: u32, c: u64) -> u64
-    requires { (1 ≤ c) × (c < 2 ^ 33) }
+    requires { 1 ≤ c }
     ensures { result ≡ ceil_div (a * b) c }
 {
-    ((a as u64) * (b as u64) + (c - 1)) / c
+    (u64::from(a) * u64::from(b)).div_ceil(c)
 }

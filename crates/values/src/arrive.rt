@@ -97,8 +97,7 @@ pub fn arrive(
     let changes = r.changes;
     let mut out = [0u32; 24];
     let mut now = r.used;
-    let mut i = 0;
-    while i < count {
+    for i in 0..count {
         let n = 2 + i as u32;
         let p = value_after(
             net, letter, low, high, index, now, time, n, values[i], changes[i], least,
@@ -113,7 +112,6 @@ pub fn arrive(
         }
         out[i] = p.entry;
         now = p.used;
-        i += 1;
     }
     Many {
         stop: Stop::Going,

@@ -57,8 +57,7 @@ pub fn sources(
     let k = net[net::LETTERS];
     let mut out = [0u32; 24];
     let mut now = used;
-    let mut i = 0;
-    while i < count {
+    for i in 0..count {
         let p = source(letter, low, high, index, now, k, net[net::START + i]);
         let why = p.stop;
         if stopped(why) {
@@ -70,7 +69,6 @@ pub fn sources(
         }
         out[i] = p.entry;
         now = p.used;
-        i += 1;
     }
     Many {
         stop: Stop::Going,

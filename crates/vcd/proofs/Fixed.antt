@@ -1,12 +1,12 @@
 -- The dump's run is that of the cell with its letters fixed as a pattern's bits: the cell's own run at that pattern.
 use mathlib.Core.Path.{◌≡◌, refl, sym, ◌∙◌, ap, ap₂}
 use mathlib.Core.Logic.{⊎_elim}
-use mathlib.Core.Bool.{Bool, true, false, not, ◌&&◌, cond}
+use mathlib.Core.Bool.{Bool, true, not, ◌&&◌, cond}
 use mathlib.Core.List.{List, [], ◌++◌}
-use Prim.Native.Nat.{ℕ, zero, suc, ◌-◌, ◌%◌, ◌/◌, ◌^◌, ◌≤◌, ◌<◌}
+use Prim.Native.Nat.{ℕ, zero, suc, ◌-◌, ◌<◌}
 use native.Mathlib.Omega.{arith}
 use lib.ListN.{length}
-use lib.Dec.{ltb, eqb}
+use lib.Dec.{ltb}
 use lib.Pow.{pow_pos}
 use borrow.Author.Tests.{eq-eqb, ne_eqb}
 use Rattle.lists.proofs.Cases.{eq_or_ne}
@@ -17,8 +17,8 @@ use Rattle.format.specs.Fixing.{Fixing, fixed}
 use Rattle.diagram.specs.Pattern.{patterns, letter_at}
 use Rattle.diagram.specs.Table.{never}
 use Rattle.diagram.proofs.Pattern.{pattern_ext}
-use Rattle.rules.specs.State.{State, value_at}
-use Rattle.rules.specs.Step.{stepped, start_exceeds, step_exceeds}
+use Rattle.rules.specs.State.{value_at}
+use Rattle.rules.specs.Step.{stepped, step_exceeds}
 use Rattle.commute.specs.Demand.{fixed_pattern}
 use Rattle.commute.specs.Alone.{Alone, own_time, start_alone, step_alone}
 use Rattle.commute.proofs.Fixed.{set_bit, pattern_letter, pattern_lt, fixed_alike, pattern_time_fixed, started_fixed, stepped_fixed, start_exceeds_fixed, step_exceeds_fixed}

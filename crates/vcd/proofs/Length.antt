@@ -1,9 +1,9 @@
 -- How long a dump is: of each time and of the whole, at most a number that follows from the node records and the horizon.
-use mathlib.Core.Path.{◌≡◌, ◌∙◌, ap}
+use mathlib.Core.Path.{◌≡◌}
 use mathlib.Core.Logic.{⊎_elim}
 use mathlib.Core.Bool.{Bool, true, false, cond}
 use mathlib.Core.List.{List, [], ◌++◌}
-use Prim.Native.Nat.{ℕ, zero, suc, ◌+◌, ◌-◌, ◌*◌, ◌^◌, ◌≤◌, ◌<◌}
+use Prim.Native.Nat.{ℕ, zero, suc, ◌+◌, ◌*◌, ◌≤◌, ◌<◌}
 use native.Mathlib.Omega.{arith}
 use lib.ListN.{length, length-append}
 use lib.Dec.{eqb}
@@ -13,14 +13,12 @@ use Rattle.format.specs.Circuit.{Circuit}
 use Rattle.format.specs.Legal.{most_nodes, most_horizon, check_circuit}
 use Rattle.format.proofs.Legal.{legal_limits}
 use Rattle.diagram.specs.Table.{never}
-use Rattle.text.specs.Decimal.{decimal, ended}
-use Rattle.text.specs.Lines.{lines_of}
 use Rattle.text.proofs.Decimal.{decimal_within}
 use Rattle.text.proofs.Lines.{lines_short}
 use Rattle.rules.specs.State.{value_at}
-use Rattle.commute.specs.Alone.{Alone, own_time, start_alone, step_alone}
-use Rattle.vcd.specs.Lines.{by_node, var_line, declarations, time_line, value_line, value_lines, change_lines, unchanged, moment_lines}
-use Rattle.vcd.specs.Dump.{over_steps, steps_left, step_lines, lines_after, start_lines, run_lines}
+use Rattle.commute.specs.Alone.{Alone, own_time, start_alone}
+use Rattle.vcd.specs.Lines.{var_line, declarations, time_line, value_line, value_lines, change_lines, unchanged, moment_lines}
+use Rattle.vcd.specs.Dump.{step_lines, lines_after, start_lines, run_lines}
 use Rattle.vcd.specs.Bound.{start_most, moment_most, dump_most}
 use Rattle.vcd.proofs.Steps.{Going, own_within, start_going, step_going, lines_more, lines_none}
 

@@ -1,10 +1,9 @@
 -- The lines of a value change dump (document 02, wish 5; IEEE 1364), as bytes: the declarations, a time, and values of node records.
-use Rattle.std.specs.Prelude.{ℕ, ◌+◌, ◌*◌, ◌≤◌, List, [], ◌∷◌, ◌++◌, Bool, not, cond, length, eqb}
+use Rattle.std.specs.Prelude.{ℕ, ◌+◌, List, [], ◌∷◌, ◌++◌, Bool, cond, eqb}
 use Rattle.lists.specs.Tests.{below}
 use Rattle.format.specs.Circuit.{first_node_number}
 use Rattle.text.specs.Decimal.{decimal, ended}
 use Rattle.text.specs.Lines.{lines_of}
-use Rattle.text.specs.Written.{Wrote}
 use Rattle.vcd.specs.Words.{timescale_line, scope_line, var_word, name_word, end_word, upscope_line, defined_line}
 
 -- the character that stands for a node

@@ -34,10 +34,8 @@ fn put_vars(out: &mut [u8], at: usize, nodes: u32) -> usize
     ensures { Wrote out.old out.new at (by_node nodes var_line) result }
 {
     let mut end = at;
-    let mut i: u32 = 0;
-    while i < nodes {
+    for i in 0..nodes {
         end = put_var(out, end, FIRST_NODE + i);
-        i += 1;
     }
     end
 }
@@ -72,11 +70,9 @@ pub fn put_values(out: &mut [u8], at: usize, nodes: u32, values: &[u32]) -> usiz
     ensures { Wrote out.old out.new at (value_lines nodes (in_column values.now)) result }
 {
     let mut end = at;
-    let mut i: u32 = 0;
-    while i < nodes {
+    for i in 0..nodes {
         let n = FIRST_NODE + i;
         end = put_value(out, end, n, values[n as usize]);
-        i += 1;
     }
     end
 }
@@ -97,12 +93,10 @@ fn put_changes(out: &mut [u8], at: usize, nodes: u32, before: &[u32], after: &[u
     ensures { Wrote out.old out.new at (change_lines nodes (in_column before.now) (in_column after.now)) result }
 {
     let mut end = at;
-    let mut i: u32 = 0;
-    while i < nodes {
+    for i in 0..nodes {
         let n = FIRST_NODE + i;
         let place = n as usize;
         end = put_change(out, end, n, before[place], after[place]);
-        i += 1;
     }
     end
 }
@@ -112,15 +106,9 @@ fn is_unchanged(nodes: u32, before: &[u32], after: &[u32]) -> bool
     requires { Values nodes before.now × Values nodes after.now }
     ensures { result ≡ unchanged nodes (in_column before.now) (in_column after.now) }
 {
-    let mut i: u32 = 0;
-    while i < nodes {
-        let place = (FIRST_NODE + i) as usize;
-        if before[place] != after[place] {
-            return false;
-        }
-        i += 1;
-    }
-    true
+    let first = FIRST_NODE as usize;
+    let end = first + nodes as usize;
+    before[first..end] == after[first..end]
 }
 
 // A time: '#' and its digits.

@@ -1,14 +1,17 @@
 // The calls by value, each held to its place in the demands.
 ghost use Rattle.refusal.specs.Number.{reply_number};
+ghost use Rattle.record.specs.declared.Run.{Run};
+ghost use Rattle.record.specs.declared.Wire.{Wire};
+ghost use Rattle.editor.specs.Functions.{result_number, after_reply};
 ghost use Rattle.diagram.specs.Call.{columns};
 ghost use Rattle.demand.specs.ByValue.{on_value, by_value};
 ghost use Rattle.witness.specs.Holding.{held};
 
-use advance::{Task, Went};
+use advance::Task;
 use cell::Cell;
-use record::Run;
-use refusal::Reply;
-use run::ask::{Asked, ask_cell};
+use record::{Run, Wire};
+use refusal::{Refusal, Reply};
+use run::ask::ask_cell;
 use run::go::on_cell;
 
 // A fresh table.
@@ -29,8 +32,8 @@ pub fn go(
     work_letter: &mut [u32],
     work_low: &mut [u32],
     work_high: &mut [u32],
-) -> Went
-    ensures { on_value cell task (held letter.old low.old high.old r) (held letter.new low.new high.new result.run) (columns work_letter.old work_low.old work_high.old) (columns work_letter.new work_low.new work_high.new) (reply_number result.reply) }
+) -> Result<Run, Refusal>
+    ensures { on_value cell task (held letter.old low.old high.old r) (held letter.new low.new high.new (after_reply r result (λ (run : Run). run))) (columns work_letter.old work_low.old work_high.old) (columns work_letter.new work_low.new work_high.new) (result_number result) }
 {
     on_cell(
         cell,
@@ -54,8 +57,8 @@ pub fn ask(
     r: Run,
     node: u32,
     pattern: u32,
-) -> Asked
-    ensures { by_value.Ask cell (held letter.now low.now high.now r) node pattern (reply_number result.reply) result.value result.change }
+) -> Result<Wire, Refusal>
+    ensures { by_value.Ask cell (held letter.now low.now high.now r) node pattern (result_number result) (after_reply 0 result (λ (wire : Wire). wire.value)) (after_reply 0 result (λ (wire : Wire). wire.change)) }
 {
     ask_cell(cell, letter, low, high, r, node, pattern)
 }

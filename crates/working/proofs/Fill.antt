@@ -90,8 +90,7 @@ module _ {size letters : ℕ} {t : Table} {f : ℕ → ℕ → ℕ} {l w h ix : 
             (eq_or_ne m n)
 
 -- A loop that fills the places in order: those below n are new.
-pub record Filling (size most letters : ℕ) (t : Table) (new old : ℕ → ℕ → ℕ) (l0 w0 h0 ix0 l w h ix : List ℕ) (used : ℕ) (entries : List ℕ) (n : ℕ) : Type 0 where
-  pub few : n ≤ most
+pub record Filling (size letters : ℕ) (t : Table) (new old : ℕ → ℕ → ℕ) (l0 w0 h0 ix0 l w h ix : List ℕ) (used : ℕ) (entries : List ℕ) (n : ℕ) : Type 0 where
   pub long : length entries ≡ size
   pub letter_long : length l ≡ length l0
   pub low_long : length w ≡ length w0
@@ -100,10 +99,9 @@ pub record Filling (size most letters : ℕ) (t : Table) (new old : ℕ → ℕ 
   pub filled : Filled size letters t (up_to n new old) l w h ix used entries
 
 -- none of the places yet
-pub filling_first : {size letters : ℕ} (most : ℕ) (new old : ℕ → ℕ → ℕ) {l w h ix : List ℕ} {used : ℕ} {entries : List ℕ} → Open letters l w h ix used → length entries ≡ size
-    → ((m : ℕ) → m < size → Means letters (held l w h used) (get_or entries m 0) (old m)) → Filling size most letters (held l w h used) new old l w h ix l w h ix used entries 0
-filling_first most new old o long each = record {
-  few = omega arith;
+pub filling_first : {size letters : ℕ} (new old : ℕ → ℕ → ℕ) {l w h ix : List ℕ} {used : ℕ} {entries : List ℕ} → Open letters l w h ix used → length entries ≡ size
+    → ((m : ℕ) → m < size → Means letters (held l w h used) (get_or entries m 0) (old m)) → Filling size letters (held l w h used) new old l w h ix l w h ix used entries 0
+filling_first new old o long each = record {
   long = long;
   letter_long = refl;
   low_long = refl;
@@ -112,13 +110,12 @@ filling_first most new old o long each = record {
   filled = record { opened = o; extends = extends_refl _; means = λ m hm. means_same (each m hm) (λ p _. sym (ap (λ (b : Bool). cond b (new m p) (old m p)) (le-ltb m 0 (omega arith)))) };
 }
 
-module _ {size most letters : ℕ} {t : Table} {new old : ℕ → ℕ → ℕ} {l0 w0 h0 ix0 l w h ix : List ℕ} {used n : ℕ} {entries : List ℕ} (s : Filling size most letters t new old l0 w0 h0 ix0 l w h ix used entries n) where
+module _ {size letters : ℕ} {t : Table} {new old : ℕ → ℕ → ℕ} {l0 w0 h0 ix0 l w h ix : List ℕ} {used n : ℕ} {entries : List ℕ} (s : Filling size letters t new old l0 w0 h0 ix0 l w h ix used entries n) where
   -- the next place
-  pub filling_next : {g : ℕ → ℕ} {l2 w2 h2 ix2 : List ℕ} {r : Put} → Grown letters (held l w h used) g l2 w2 h2 ix2 r → stopped r.stop ≡ false → ((p : ℕ) → p < patterns letters → g p ≡ new n p) → n < most → most ≤ size
+  pub filling_next : {g : ℕ → ℕ} {l2 w2 h2 ix2 : List ℕ} {r : Put} → Grown letters (held l w h used) g l2 w2 h2 ix2 r → stopped r.stop ≡ false → ((p : ℕ) → p < patterns letters → g p ≡ new n p) → n < size
       → length l2 ≡ length l → length w2 ≡ length w → length h2 ≡ length h → length ix2 ≡ length ix
-      → Filling size most letters t new old l0 w0 h0 ix0 l2 w2 h2 ix2 r.used (set entries n r.entry) (n + 1)
-  filling_next {r = r} q room same lt le a b c d = record {
-    few = omega arith;
+      → Filling size letters t new old l0 w0 h0 ix0 l2 w2 h2 ix2 r.used (set entries n r.entry) (n + 1)
+  filling_next {r = r} q room same lt a b c d = record {
     long = length-set entries n r.entry ∙ s.long;
     letter_long = a ∙ s.letter_long;
     low_long = b ∙ s.low_long;
@@ -130,10 +127,8 @@ module _ {size most letters : ℕ} {t : Table} {new old : ℕ → ℕ → ℕ} {
   }
 
   -- all of the places that are to be filled
-  pub filling_done : most ≤ n → Filled size letters t (up_to most new old) l w h ix used entries
-  filling_done le =
-      let z : n ≡ most = omega (arith, s.few) in
-      rw z at s.filled
+  pub filling_done : {most : ℕ} → n ≡ most → Filled size letters t (up_to most new old) l w h ix used entries
+  filling_done z = rw z at s.filled
 
   pub filling_all : size ≤ n → Filled size letters t new l w h ix used entries
   filling_all le = filled_same s.filled (λ m p hm hp. ap (λ (b : Bool). cond b (new m p) (old m p)) (lt-ltb m n (omega arith)))
@@ -144,7 +139,6 @@ rows_to n new old x y p = cond (ltb x n) (new x y p) (old x y p)
 
 -- A loop that fills the rows of a matrix in order.
 pub record RowsFilling (letters : ℕ) (t : Table) (new old : ℕ → ℕ → ℕ → ℕ) (l0 w0 h0 ix0 l w h ix : List ℕ) (used : ℕ) (joined : List (List ℕ)) (n : ℕ) : Type 0 where
-  pub few : n ≤ 24
   pub long : length joined ≡ 24
   pub letter_long : length l ≡ length l0
   pub low_long : length w ≡ length w0
@@ -156,7 +150,6 @@ pub record RowsFilling (letters : ℕ) (t : Table) (new old : ℕ → ℕ → �
 pub rows_first : {letters : ℕ} (new old : ℕ → ℕ → ℕ → ℕ) {l w h ix : List ℕ} {used : ℕ} {joined : List (List ℕ)} → Open letters l w h ix used → length joined ≡ 24
     → ((x y : ℕ) → x < 24 → y < 24 → Means letters (held l w h used) (cell joined x y) (old x y)) → RowsFilling letters (held l w h used) new old l w h ix l w h ix used joined 0
 rows_first new old o long each = record {
-  few = omega arith;
   long = long;
   letter_long = refl;
   low_long = refl;
@@ -171,7 +164,6 @@ module _ {letters : ℕ} {t : Table} {new old : ℕ → ℕ → ℕ → ℕ} {l0
       → length l2 ≡ length l → length w2 ≡ length w → length h2 ≡ length h → length ix2 ≡ length ix
       → RowsFilling letters t new old l0 w0 h0 ix0 l2 w2 h2 ix2 used2 (set joined n row) (n + 1)
   rows_next {f} {l2} {w2} {h2} {ix2} {used2} {row} q same lt a b c d = record {
-    few = omega arith;
     long = length-set joined n row ∙ s.long;
     letter_long = a ∙ s.letter_long;
     low_long = b ∙ s.low_long;

@@ -99,8 +99,7 @@ fn link_cells(
 {
     let mut out = row;
     let mut now = used;
-    let mut y = 0;
-    while y < 24 {
+    for y in 0..24 {
         let p = link_cell(letter, low, high, index, now, k, row[y], xa, b[y], xb, a[y]);
         let why = p.stop;
         if stopped(why) {
@@ -112,7 +111,6 @@ fn link_cells(
         }
         out[y] = p.entry;
         now = p.used;
-        y += 1;
     }
     Row {
         stop: Stop::Going,
@@ -190,8 +188,7 @@ pub fn link(
     let first = joined[a];
     let second = joined[b];
     let mut out = joined;
-    let mut x = 0;
-    while x < 24 {
+    for x in 0..24 {
         let r = link_row(
             letter, low, high, index, *used, k, kept, a, b, out[x], first, second,
         );
@@ -203,7 +200,6 @@ pub fn link(
         let row = r.row;
         out[x] = row;
         *used = r.used;
-        x += 1;
     }
     out
 }

@@ -41,8 +41,7 @@ pub fn bring_all(
     let mut cache = [0u32; WORDS];
     let mut out = [0u32; 26];
     let mut now = used;
-    let mut n = 0;
-    while n < count {
+    for n in 0..count {
         let p = bring_part(
             tletter, tlow, thigh, tused, letter, low, high, index, now, k, entries[n], k,
             &mut cache,
@@ -57,7 +56,6 @@ pub fn bring_all(
         }
         out[n] = p.entry;
         now = p.used;
-        n += 1;
     }
     Many {
         stop: Stop::Going,
@@ -67,6 +65,7 @@ pub fn bring_all(
 }
 
 // Where the first entries of `before` and `after` differ: 1 there, else 0; 0 for the rest. They share what a cache knows.
+// Beside `bring_all`: one function for both would take the call and what its cache knows as parameters, and be no plainer.
 pub fn changed_all(
     tletter: &[u32],
     tlow: &[u32],
@@ -89,8 +88,7 @@ pub fn changed_all(
     let mut cache = [0u32; WORDS];
     let mut out = [0u32; 26];
     let mut now = used;
-    let mut n = 0;
-    while n < count {
+    for n in 0..count {
         let p = differ_part(
             tletter, tlow, thigh, tused, letter, low, high, index, now, k, before[n], after[n], k,
             &mut cache,
@@ -105,7 +103,6 @@ pub fn changed_all(
         }
         out[n] = p.entry;
         now = p.used;
-        n += 1;
     }
     Many {
         stop: Stop::Going,

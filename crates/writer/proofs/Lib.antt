@@ -1,3 +1,4 @@
+pub mod Bytes
 pub mod Remains
 pub mod Parts
 pub mod Saves

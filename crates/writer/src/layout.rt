@@ -1,26 +1,17 @@
 // The 16 bytes of the header and of each kind of record.
-ghost use Rattle.std.specs.Prelude.{◌≡◌, ◌%◌};
+ghost use Rattle.std.specs.Prelude.{◌≡◌, ℕ, List, length};
 ghost use Rattle.format.specs.Saved.{first_from, header_bytes, node_bytes, transistor_bytes, entry_bytes};
+ghost use Rattle.format.proofs.SavedRecord.{node_bytes_length, transistor_bytes_length, entry_bytes_length};
 ghost use Rattle.cell.specs.Counted.{Counted};
 
 use format::{Entry, Header, Node, Transistor};
-use records::kinds::{ENTRY, NODE, TRANSISTOR};
-
-// The lowest byte of a number.
-fn low(n: u64) -> u8
-    ensures { result ≡ n % 256 }
-{
-    (n % 256) as u8
-}
+use records::kinds::FileRecord;
 
 // The first number of a chain of so many records, numbered from r on.
 pub fn first_from(r: u32, count: u32) -> u32
     ensures { result ≡ first_from r count }
 {
-    if count == 0 {
-        return 0;
-    }
-    r
+    if count == 0 { 0 } else { r }
 }
 
 // The header; node records are numbered first, then transistors, then the schedule.
@@ -28,101 +19,123 @@ pub fn header_bytes(h: Header) -> [u8; 16]
     requires { Counted h }
     ensures { result ≡ header_bytes h }
 {
-    let horizon = h.horizon.0;
-    let nodes = first_from(1, h.nodes) as u64;
-    let transistors = first_from(1 + h.nodes, h.transistors) as u64;
-    let entries = first_from(1 + h.nodes + h.transistors, h.entries) as u64;
+    let horizon = h.horizon.0.to_le_bytes();
+    let nodes = first_from(1, h.nodes).to_le_bytes();
+    let transistors = first_from(1 + h.nodes, h.transistors).to_le_bytes();
+    let entries = first_from(1 + h.nodes + h.transistors, h.entries).to_le_bytes();
     [
         h.nodes as u8,
         h.transistors as u8,
         h.entries as u8,
         h.letters as u8,
-        low(horizon),
-        low(horizon / 256),
-        low(horizon / 65536),
-        low(horizon / 65536 / 256),
-        low(nodes),
-        low(nodes / 256),
-        low(transistors),
-        low(transistors / 256),
-        low(entries),
-        low(entries / 256),
+        horizon[0],
+        horizon[1],
+        horizon[2],
+        horizon[3],
+        nodes[0],
+        nodes[1],
+        transistors[0],
+        transistors[1],
+        entries[0],
+        entries[1],
         0,
         0,
     ]
 }
 
-pub fn node_bytes(next: u32, n: Node) -> [u8; 16]
-    ensures { result ≡ node_bytes next n }
-{
-    let link = next as u64;
-    let capacitance = n.capacitance.0 as u64;
-    [
-        NODE,
-        0,
-        low(link),
-        low(link / 256),
-        n.role,
-        n.start,
-        low(capacitance),
-        low(capacitance / 256),
-        0,
-        0,
-        0,
-        0,
-        0,
-        0,
-        0,
-        0,
-    ]
+// A record as the 16 bytes that it is saved as, which name the next record of its chain.
+pub trait SavedRecord: FileRecord {
+    ghost bytes: { ℕ → Self → List ℕ };
+
+    fn bytes(self, next: u32) -> [u8; 16]
+        ensures { result ≡ bytes next self };
+
+    ghost long: { (next : ℕ) (x : Self) → length (bytes next x) ≡ 16 };
 }
 
-pub fn transistor_bytes(next: u32, t: Transistor) -> [u8; 16]
-    ensures { result ≡ transistor_bytes next t }
-{
-    let link = next as u64;
-    let resistance = t.resistance.0 as u64;
-    [
-        TRANSISTOR,
-        0,
-        low(link),
-        low(link / 256),
-        t.polarity,
-        t.gate,
-        t.first,
-        t.second,
-        low(resistance),
-        low(resistance / 256),
-        low(resistance / 65536),
-        low(resistance / 65536 / 256),
-        0,
-        0,
-        0,
-        0,
-    ]
+impl SavedRecord for Node {
+    ghost bytes = { node_bytes };
+
+    ghost long = { node_bytes_length };
+
+    fn bytes(self, next: u32) -> [u8; 16] {
+        let link = next.to_le_bytes();
+        let capacitance = self.capacitance.0.to_le_bytes();
+        [
+            Node::KIND,
+            0,
+            link[0],
+            link[1],
+            self.role,
+            self.start,
+            capacitance[0],
+            capacitance[1],
+            0,
+            0,
+            0,
+            0,
+            0,
+            0,
+            0,
+            0,
+        ]
+    }
 }
 
-pub fn entry_bytes(next: u32, e: Entry) -> [u8; 16]
-    ensures { result ≡ entry_bytes next e }
-{
-    let link = next as u64;
-    let time = e.time.0;
-    [
-        ENTRY,
-        0,
-        low(link),
-        low(link / 256),
-        e.input,
-        e.source,
-        0,
-        0,
-        low(time),
-        low(time / 256),
-        low(time / 65536),
-        low(time / 65536 / 256),
-        0,
-        0,
-        0,
-        0,
-    ]
+impl SavedRecord for Transistor {
+    ghost bytes = { transistor_bytes };
+
+    ghost long = { transistor_bytes_length };
+
+    fn bytes(self, next: u32) -> [u8; 16] {
+        let link = next.to_le_bytes();
+        let resistance = self.resistance.0.to_le_bytes();
+        [
+            Transistor::KIND,
+            0,
+            link[0],
+            link[1],
+            self.polarity,
+            self.gate,
+            self.first,
+            self.second,
+            resistance[0],
+            resistance[1],
+            resistance[2],
+            resistance[3],
+            0,
+            0,
+            0,
+            0,
+        ]
+    }
+}
+
+impl SavedRecord for Entry {
+    ghost bytes = { entry_bytes };
+
+    ghost long = { entry_bytes_length };
+
+    fn bytes(self, next: u32) -> [u8; 16] {
+        let link = next.to_le_bytes();
+        let time = self.time.0.to_le_bytes();
+        [
+            Entry::KIND,
+            0,
+            link[0],
+            link[1],
+            self.input,
+            self.source,
+            0,
+            0,
+            time[0],
+            time[1],
+            time[2],
+            time[3],
+            0,
+            0,
+            0,
+            0,
+        ]
+    }
 }

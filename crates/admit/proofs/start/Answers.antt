@@ -35,7 +35,7 @@ pub shape_of-windex-then-stopped : goal.shape_of-windex-then-stopped
 shape_of-windex-then-stopped c = omega (arith, c.start-next.auto.windex)
 
 pub returns-then-stopped : goal.returns-then-stopped
-returns-then-stopped c = start_crowded c.requires.0 c.requires.1 c.start-next.ensures (omega (arith, c.start-next.auto.letter)) (sym c.stopped.ensures ∙ c.if-stopped.true) c.start_within.ensures c.crowded.ensures _
+returns-then-stopped c = start_crowded c.requires.0 c.requires.1 c.start-next.ensures (omega (arith, c.start-next.auto.letter)) (sym c.stopped.ensures ∙ c.if-stopped.true) c.start_within.ensures c.crowded.ensures
 
 pub run_sound-requires : goal.run_sound-requires
 run_sound-requires c = (c.requires.0, start_legible c.requires.0 c.requires.1 c.start-next.ensures (omega (arith, c.start-next.auto.letter)) (sym c.stopped.ensures ∙ c.if-stopped.false))

@@ -1,8 +1,6 @@
 -- `step`: as `start`, from the run and the table, which still stand where there is no room.
-use mathlib.Core.Path.{refl, sym, ◌∙◌, ap}
+use mathlib.Core.Path.{refl, sym, ◌∙◌}
 use native.Mathlib.Omega.{arith}
-use Rattle.lists.proofs.Cases.{true_false}
-use Rattle.refusal.specs.Answer.{refuses}
 use Rattle.admit.proofs.Whole.{still_legible, still_sound, still_time, still_within, step_crowded, step_legible, step_judgeable, step_reached, step_leasts}
 use Rattle.admit.proofs.step.Goals as goal
 
@@ -41,7 +39,7 @@ pub shape_of-least-then-stopped : goal.shape_of-least-then-stopped
 shape_of-least-then-stopped c = omega (arith)
 
 pub returns-then-stopped : goal.returns-then-stopped
-returns-then-stopped c = record { reached = step_crowded c.args.r c.requires.laid.0 c.requires.laid.1 c.requires.r_value.0 c.step-next.ensures (omega (arith, c.step-next.auto.letter)) (sym c.stopped.ensures ∙ c.if-stopped.true) (still_within c.args.r c.requires.laid.0 c.requires.laid.1 c.requires.r_value.0 c.step-next.ensures (omega (arith, c.step-next.auto.letter)) c.step_within.ensures) c.crowded.ensures _; least_len_unchanged = (refl, λ z. true_false (refuses c.crowded.result.reply) (ap refuses c.crowded.ensures) z) }
+returns-then-stopped c = record { reached = step_crowded c.args.r c.requires.laid.0 c.requires.laid.1 c.requires.r_value.0 c.step-next.ensures (omega (arith, c.step-next.auto.letter)) (sym c.stopped.ensures ∙ c.if-stopped.true) (still_within c.args.r c.requires.laid.0 c.requires.laid.1 c.requires.r_value.0 c.step-next.ensures (omega (arith, c.step-next.auto.letter)) c.step_within.ensures) c.crowded.ensures; least_len_unchanged = (refl, tt) }
 
 pub times_only-requires : goal.times_only-requires
 times_only-requires c =
@@ -77,4 +75,4 @@ shape_of-least c = omega (arith, c.times_only.auto.least)
 pub returns : goal.returns
 returns c =
     let e = (sym c.stopped.ensures ∙ c.if-stopped.false) in let j = c.times_only.ensures in
-    record { reached = step_reached c.args.r c.requires.laid.0 c.requires.laid.1 c.requires.r_value.0 c.step-next.ensures (omega (arith, c.step-next.auto.letter)) e j c.judged.ensures; least_len_unchanged = (j.long, λ _. step_leasts c.args.r c.requires.laid.0 c.requires.laid.1 c.requires.r_value.0 c.step-next.ensures (omega (arith, c.step-next.auto.letter)) e j c.judged.ensures.0) }
+    record { reached = step_reached c.args.r c.requires.laid.0 c.requires.laid.1 c.requires.r_value.0 c.step-next.ensures (omega (arith, c.step-next.auto.letter)) e j c.judged.ensures; least_len_unchanged = (j.long, step_leasts c.args.r c.requires.laid.0 c.requires.laid.1 c.requires.r_value.0 c.step-next.ensures (omega (arith, c.step-next.auto.letter)) e j c.judged.ensures) }

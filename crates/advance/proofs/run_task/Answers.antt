@@ -6,9 +6,6 @@ use Rattle.diagram.specs.Call.{columns}
 use Rattle.advance.proofs.Ends.{went_refused, went_closed, together_sound, run_unsound, run_next}
 use Rattle.advance.proofs.run_task.Goals as goal
 
-pub refused-requires : goal.refused-requires
-refused-requires c = tt
-
 pub shape_of-letter-then-not-sound_together : goal.shape_of-letter-then-not-sound_together
 shape_of-letter-then-not-sound_together c = refl
 
@@ -22,16 +19,13 @@ pub shape_of-index-then-not-sound_together : goal.shape_of-index-then-not-sound_
 shape_of-index-then-not-sound_together c = c.sound_together.auto.index
 
 pub returns-then-not-sound_together : goal.returns-then-not-sound_together
-returns-then-not-sound_together c = went_refused Unsound (run_unsound c.args.net.now c.args.letter.now c.args.low.now c.args.high.now c.args.r (columns c.args.wletter.now c.args.wlow.now c.args.whigh.now) c.requires.laid.1 c.requires.laid.2 c.sound_together.ensures c.args.until (not-true _ c.if-not-sound_together.true-raw)) c.refused.ensures
+returns-then-not-sound_together c = went_refused Unsound (run_unsound c.args.net.now c.args.letter.now c.args.low.now c.args.high.now c.args.r (columns c.args.wletter.now c.args.wlow.now c.args.whigh.now) c.requires.laid.1 c.requires.laid.2 c.sound_together.ensures c.args.until (not-true _ c.if-not-sound_together.true-raw))
 
 pub steps-next-requires : goal.steps-next-requires
 steps-next-requires c =
     let t = c.sound_together.ensures in
     let e = not-false _ c.if-not-sound_together.false-raw in
     record { laid = (c.requires.laid.0, t.opened e, c.requires.sized.2); r_value = together_sound t e }
-
-pub closed-requires : goal.closed-requires
-closed-requires c = tt
 
 pub shape_of-letter : goal.shape_of-letter
 shape_of-letter c = c.closed.auto.letter ∙ c.steps-next.auto.letter

@@ -7,9 +7,6 @@ use Rattle.functions.proofs.Carry.{judged_open}
 use Rattle.advance.proofs.Ends.{went_refused, went_closed, start_unsound, start_next}
 use Rattle.advance.proofs.start_task.Goals as goal
 
-pub refused-requires : goal.refused-requires
-refused-requires c = tt
-
 pub shape_of-letter-then-not-sound : goal.shape_of-letter-then-not-sound
 shape_of-letter-then-not-sound c = refl
 
@@ -23,13 +20,10 @@ pub shape_of-index-then-not-sound : goal.shape_of-index-then-not-sound
 shape_of-index-then-not-sound c = c.sound.auto.index
 
 pub returns-then-not-sound : goal.returns-then-not-sound
-returns-then-not-sound c = went_refused Unsound (start_unsound c.args.net.now c.args.letter.now c.args.low.now c.args.high.now c.args.r (columns c.args.wletter.now c.args.wlow.now c.args.whigh.now) c.requires.laid.1 c.requires.laid.2 c.sound.ensures (not-true _ c.if-not-sound.true-raw)) c.refused.ensures
+returns-then-not-sound c = went_refused Unsound (start_unsound c.args.net.now c.args.letter.now c.args.low.now c.args.high.now (columns c.args.wletter.now c.args.wlow.now c.args.whigh.now) c.requires.laid.1 c.requires.laid.2 c.sound.ensures (not-true _ c.if-not-sound.true-raw))
 
 pub start-next-requires : goal.start-next-requires
 start-next-requires c = (c.requires.laid.0, judged_open c.sound.ensures (not-false _ c.if-not-sound.false-raw) c.requires.laid.0.within.letters, c.requires.sized.2)
-
-pub closed-requires : goal.closed-requires
-closed-requires c = tt
 
 pub shape_of-letter : goal.shape_of-letter
 shape_of-letter c = c.closed.auto.letter ∙ c.start-next.auto.letter
@@ -60,6 +54,6 @@ returns c =
     let j = c.sound.ensures in
     let e = not-false _ c.if-not-sound.false-raw in
     went_closed (judged_open j e c.requires.laid.0.within.letters).holds c.start-next.auto.letter
-    (start_next c.args.net.now c.args.letter.now c.args.low.now c.args.high.now c.args.r (columns c.args.wletter.now c.args.wlow.now c.args.whigh.now) c.requires.laid.1 c.requires.laid.2 j e)
+    (start_next c.args.net.now c.args.letter.now c.args.low.now c.args.high.now (columns c.args.wletter.now c.args.wlow.now c.args.whigh.now) c.requires.laid.1 c.requires.laid.2 j e)
     c.start-next.ensures
     c.closed.ensures

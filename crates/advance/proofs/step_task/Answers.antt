@@ -11,9 +11,6 @@ use Rattle.advance.proofs.Ends.{went_refused, went_closed, together_sound, step_
 use Rattle.advance.proofs.Moving.{open_room}
 use Rattle.advance.proofs.step_task.Goals as goal
 
-pub refused-requires : goal.refused-requires
-refused-requires c = tt
-
 pub shape_of-letter-then-not-sound_together : goal.shape_of-letter-then-not-sound_together
 shape_of-letter-then-not-sound_together c = refl
 
@@ -27,16 +24,13 @@ pub shape_of-index-then-not-sound_together : goal.shape_of-index-then-not-sound_
 shape_of-index-then-not-sound_together c = c.sound_together.auto.index
 
 pub returns-then-not-sound_together : goal.returns-then-not-sound_together
-returns-then-not-sound_together c = went_refused Unsound (step_unsound c.args.net.now c.args.letter.now c.args.low.now c.args.high.now c.args.r (columns c.args.wletter.now c.args.wlow.now c.args.whigh.now) c.requires.laid.1 c.requires.laid.2 c.sound_together.ensures (not-true _ c.if-not-sound_together.true-raw)) c.refused.ensures
+returns-then-not-sound_together c = went_refused Unsound (step_unsound c.args.net.now c.args.letter.now c.args.low.now c.args.high.now c.args.r (columns c.args.wletter.now c.args.wlow.now c.args.whigh.now) c.requires.laid.1 c.requires.laid.2 c.sound_together.ensures (not-true _ c.if-not-sound_together.true-raw))
 
 pub time_after-time-requires : goal.time_after-time-requires
 time_after-time-requires c =
     let t = c.sound_together.ensures in
     let e = not-false _ c.if-not-sound_together.false-raw in
     record { laid = (c.requires.laid.0, (t.opened e).legible, together_sound t e); done_le_used = (omega arith, open_room (t.opened e) (replicate 65536 0) (length-replicate {A = ℕ} 65536 0), leasts_none _ _ _) }
-
-pub refused-requires-then-time : goal.refused-requires-then-time
-refused-requires-then-time c = tt
 
 pub shape_of-letter-then-time : goal.shape_of-letter-then-time
 shape_of-letter-then-time c = refl
@@ -51,16 +45,13 @@ pub shape_of-index-then-time : goal.shape_of-index-then-time
 shape_of-index-then-time c = c.sound_together.auto.index
 
 pub returns-then-time : goal.returns-then-time
-returns-then-time c = went_refused Finished (step_finished c.args.net.now c.args.letter.now c.args.low.now c.args.high.now c.args.r (columns c.args.wletter.now c.args.wlow.now c.args.whigh.now) c.requires.laid.1 c.requires.laid.2 c.sound_together.ensures (not-false _ c.if-not-sound_together.false-raw) (sym c.time_after-time.ensures.0 ∙ c.if-time.true)) c.refused-then-time.ensures
+returns-then-time c = went_refused Finished (step_finished c.args.net.now c.args.letter.now c.args.low.now c.args.high.now c.args.r (columns c.args.wletter.now c.args.wlow.now c.args.whigh.now) c.requires.laid.1 c.requires.laid.2 c.sound_together.ensures (not-false _ c.if-not-sound_together.false-raw) (sym c.time_after-time.ensures.0 ∙ c.if-time.true))
 
 pub step-next-requires : goal.step-next-requires
 step-next-requires c =
     let t = c.sound_together.ensures in
     let e = not-false _ c.if-not-sound_together.false-raw in
     record { laid = (c.requires.laid.0, t.opened e, c.requires.sized.2, omega (arith, (t.opened e).holds.ready.sized.most, c.time_after-time.ensures.1, length-replicate {A = ℕ} 65536 0)); r_value = (together_sound t e, c.time_after-time.ensures.0, c.time_after-time.ensures.2) }
-
-pub closed-requires : goal.closed-requires
-closed-requires c = tt
 
 pub shape_of-letter : goal.shape_of-letter
 shape_of-letter c = c.closed.auto.letter ∙ c.step-next.auto.letter

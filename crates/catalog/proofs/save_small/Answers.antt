@@ -5,7 +5,7 @@ use Rattle.catalog.proofs.Places.{small_past, small_saved}
 use Rattle.catalog.proofs.save_small.Goals as goal
 
 pub returns-then-place-ge-CELLS : goal.returns-then-place-ge-CELLS
-returns-then-place-ge-CELLS c = small_past c.args.out.now c.args.place (omega (arith, c.if-place-ge-CELLS.true)) c.refused.ensures
+returns-then-place-ge-CELLS c = small_past c.args.out.now c.args.place (omega (arith, c.if-place-ge-CELLS.true))
 
 pub returns : goal.returns
 returns c =

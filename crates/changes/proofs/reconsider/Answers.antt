@@ -1,5 +1,4 @@
 -- `reconsider` meets its contract: by functions, or node by node. Assumes nothing.
-use native.Mathlib.Omega.{arith}
 use Rattle.net.specs.Net.{at, net_circuit}
 use Rattle.marked.proofs.Entries.{lent_again}
 use Rattle.marked.proofs.Trying.{again_open, again_entries, again_stored}
@@ -18,30 +17,6 @@ pub all_by_entries-requires : goal.all_by_entries-requires
 all_by_entries-requires c =
     let same = (c.by_functions-tried.ensures.1 c.if-tried.false) in let e = again_entries same (record { first = c.requires.value_entries.0; second = c.requires.value_entries.1; third = c.requires.value_entries.2 }) in
     record { net = (c.requires.laid.0, again_open same c.requires.laid.1, lent_again (record { letter_long = c.by_functions-tried.auto.wletter; low_long = c.by_functions-tried.auto.wlow; high_long = c.by_functions-tried.auto.whigh; index_long = c.by_functions-tried.auto.windex }) c.requires.laid.2); value_entries = (e.first, e.second, e.third) }
-
-pub shape_of-letter : goal.shape_of-letter
-shape_of-letter c = omega (arith, c.all_by_entries.auto.letter, c.by_functions-tried.auto.letter)
-
-pub shape_of-low : goal.shape_of-low
-shape_of-low c = omega (arith, c.all_by_entries.auto.low, c.by_functions-tried.auto.low)
-
-pub shape_of-high : goal.shape_of-high
-shape_of-high c = omega (arith, c.all_by_entries.auto.high, c.by_functions-tried.auto.high)
-
-pub shape_of-index : goal.shape_of-index
-shape_of-index c = omega (arith, c.all_by_entries.auto.index, c.by_functions-tried.auto.index)
-
-pub shape_of-wletter : goal.shape_of-wletter
-shape_of-wletter c = omega (arith, c.all_by_entries.auto.wletter, c.by_functions-tried.auto.wletter)
-
-pub shape_of-wlow : goal.shape_of-wlow
-shape_of-wlow c = omega (arith, c.all_by_entries.auto.wlow, c.by_functions-tried.auto.wlow)
-
-pub shape_of-whigh : goal.shape_of-whigh
-shape_of-whigh c = omega (arith, c.all_by_entries.auto.whigh, c.by_functions-tried.auto.whigh)
-
-pub shape_of-windex : goal.shape_of-windex
-shape_of-windex c = omega (arith, c.all_by_entries.auto.windex, c.by_functions-tried.auto.windex)
 
 pub returns : goal.returns
 returns c = again_stored (at c.args.net.now 3) c.args.used (c.by_functions-tried.ensures.1 c.if-tried.false) (net_circuit c.args.net.now) c.args.time c.args.all c.args.before c.args.after c.args.pending c.all_by_entries.ensures

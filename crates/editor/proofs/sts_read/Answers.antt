@@ -13,32 +13,30 @@ pub returns-then-header-ne5 : goal.returns-then-header-ne5
 returns-then-header-ne5 c =
     let file = c.args.file.now in
     let header = c.args.header.now in
-    let both = call_refused file header Buffer (wrong_length file header c.if-header-ne5.true) c.refusal_number.ensures in
+    let both = call_refused file header Buffer (wrong_length file header c.if-header-ne5.true) c.from.ensures in
     record { value = both.0; header_after = both.1 }
 
 pub write_header-requires : goal.write_header-requires
 write_header-requires c =
-    let read = c.read-reading in
-    let found = reading_done c.args.file.now read.result read.ensures c.in-Done.is in
-    let limits = rw (header_kept read.result.cell) at (legal_read c.args.file.now (circuit_of read.result.cell) found).limits in
+    let cell = c.in-Ok.cell in
+    let found = reading_done c.args.file.now c.read.result c.read.ensures cell c.in-Ok.is in
+    let limits = rw (header_kept cell) at (legal_read c.args.file.now (circuit_of cell) found).limits in
     (c.if-header-ne5.false, omega (arith, limits.most_horizon_lem))
 
-pub returns-in-Done : goal.returns-in-Done
-returns-in-Done c =
-    let read = c.read-reading in
+pub returns-in-Ok : goal.returns-in-Ok
+returns-in-Ok c =
     let file = c.args.file.now in
     let header = c.args.header.now in
-    let cell = c.read-reading.result.cell in
-    let found = reading_done file read.result read.ensures c.in-Done.is in
+    let cell = c.in-Ok.cell in
+    let found = reading_done file c.read.result c.read.ensures cell c.in-Ok.is in
     let long = c.if-header-ne5.false in
     let both = call_answered file header (circuit_of cell) (right_length file header long ∙ found) (c.write_header.ensures ∙ header_numbers_lem cell.header (circuit_of cell) (sym (header_kept cell))) in
     record { value = both.0; header_after = both.1 }
 
-pub returns-in-Refused : goal.returns-in-Refused
-returns-in-Refused c =
-    let read = c.read-reading in
+pub returns-in-Err : goal.returns-in-Err
+returns-in-Err c =
     let file = c.args.file.now in
     let header = c.args.header.now in
     let long = c.if-header-ne5.false in
-    let both = call_refused file header c.in-Refused.why (right_length file header long ∙ reading_refused file read.result read.ensures c.in-Refused.why c.in-Refused.is) c.refusal_number-in-Refused.ensures in
+    let both = call_refused file header c.in-Err.why (right_length file header long ∙ reading_refused file c.read.result c.read.ensures c.in-Err.why c.in-Err.is) c.from-in-Err.ensures in
     record { value = both.0; header_after = both.1 }

@@ -12,9 +12,6 @@ use Rattle.record.proofs.run_sound.Goals as goal
 pub horizon-last-requires : goal.horizon-last-requires
 horizon-last-requires c = c.requires.0
 
-pub overflow_cast-most : goal.overflow_cast-most
-overflow_cast-most c = omega (arith, c.horizon-last.ensures.1)
-
 pub returns-then-most-time : goal.returns-then-most-time
 unfolding net_circuit
 returns-then-most-time c =

@@ -12,17 +12,11 @@ use Rattle.record.proofs.wire_at.Goals as goal
 pub returns-then-n-lt2 : goal.returns-then-n-lt2
 returns-then-n-lt2 c = (rw (lt-ltb _ _ c.if-n-lt2.true), rw (lt-ltb _ _ c.if-n-lt2.true))
 
-pub bounds-values-i : goal.bounds-values-i
-bounds-values-i c = omega arith
-
 pub number-value-requires : goal.number-value-requires
 unfolding net_circuit
 number-value-requires c =
     let full : (length c.args.r.values ≡ 24) × (length c.args.r.changes ≡ 24) = ((search rules, search rules)) in
     (c.requires.1, value_used c.args.net.now c.args.letter.now c.args.low.now c.args.high.now c.args.r (full).0 (full).1 c.requires.0.within.nodes c.requires.1 c.requires.2 (c.args.n - 2) (omega arith))
-
-pub bounds-changes-i : goal.bounds-changes-i
-bounds-changes-i c = omega arith
 
 pub number-change-requires : goal.number-change-requires
 unfolding net_circuit

@@ -4,6 +4,5 @@ use Rattle.small.proofs.put_large.Goals as goal
 
 pub returns : goal.returns
 returns c =
-    let r = c.refused-saving in
     let p = c.put_saving in
-    refusal_message _ r.result p.result r.ensures p.ensures
+    refusal_message _ p.result p.ensures

@@ -1,20 +1,20 @@
 -- `put_small` meets its contract: the argument decides.
-use mathlib.Core.Path.{sym, ◌∙◌}
-use Rattle.text.specs.declared.Parsed.TheVariants.{Number, Large, Other}
+use Rattle.std.proofs.Common.{Err}
+use Rattle.text.specs.declared.ParseError.TheVariants.{Large, Other}
 use Rattle.small.proofs.Messages.{message_prints, prints_as}
 use Rattle.small.proofs.put_small.Goals as goal
 
-pub returns-in-Number : goal.returns-in-Number
-returns-in-Number c =
+pub returns-in-Ok : goal.returns-in-Ok
+returns-in-Ok c =
     let p = c.put_place in
-    prints_as (Number c.in-Number.place) _ _ _ p.result (sym c.in-Number.is ∙ c.parse-parsed.ensures) p.ensures
+    prints_as _ _ _ _ p.result c.in-Ok.ensures p.ensures
 
-pub returns-in-Large : goal.returns-in-Large
-returns-in-Large c =
+pub returns-in-Err-Large : goal.returns-in-Err-Large
+returns-in-Err-Large c =
     let p = c.put_large in
-    prints_as Large _ _ _ p.result (sym c.in-Large.is ∙ c.parse-parsed.ensures) (message_prints _ _ _ p.result p.ensures)
+    prints_as (Err Large) _ _ _ p.result (rw c.in-Err-Large.field-0-is at c.in-Err-Large.ensures) (message_prints _ _ _ p.result p.ensures)
 
-pub returns-in-Other : goal.returns-in-Other
-returns-in-Other c =
+pub returns-in-Err-Other : goal.returns-in-Err-Other
+returns-in-Err-Other c =
     let p = c.put_usage in
-    prints_as Other _ _ _ p.result (sym c.in-Other.is ∙ c.parse-parsed.ensures) (message_prints _ _ _ p.result p.ensures)
+    prints_as (Err Other) _ _ _ p.result (rw c.in-Err-Other.field-0-is at c.in-Err-Other.ensures) (message_prints _ _ _ p.result p.ensures)

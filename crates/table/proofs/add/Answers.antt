@@ -3,9 +3,6 @@ use native.Mathlib.Omega.{arith}
 use Rattle.table.proofs.Outcomes.{outcome_found, outcome_new, outcome_full}
 use Rattle.table.proofs.add.Goals as goal
 
-pub find-at-requires : goal.find-at-requires
-find-at-requires c = c.requires
-
 pub returns-then-at-used : goal.returns-then-at-used
 returns-then-at-used c = outcome_found c.requires _ _ c.find-at.ensures c.if-at-used.true
 

@@ -2,9 +2,6 @@
 use Rattle.table.proofs.Outcomes.{sought_find}
 use Rattle.table.proofs.find.Goals as goal
 
-pub seek-requires : goal.seek-requires
-seek-requires c = c.requires.ready
-
 pub returns : goal.returns
 returns c =
     let s = c.requires in

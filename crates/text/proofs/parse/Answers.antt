@@ -1,40 +1,28 @@
-use mathlib.Core.Path.{sym, ◌∙◌}
-use native.Mathlib.Omega.{arith}
-use Rattle.text.proofs.Number.{parsed_none, parsed_some, from_low, from_high, from_more, from_number, from_large, with_digit_small}
+use Rattle.std.proofs.Common.{sym, ◌∙◌, arith, rules}
+use Rattle.text.proofs.Number.{parsed_none, parsed_some, from_other, from_more, from_whole, with_digit_small}
 use Rattle.text.proofs.parse.Goals as goal
 
-pub returns-then-text-eq0 : goal.returns-then-text-eq0
-returns-then-text-eq0 c = parsed_none c.args.text.now c.if-text-eq0.true
+pub returns-then-is_empty : goal.returns-then-is_empty
+returns-then-is_empty c = parsed_none c.args.text.now (search rules)
 
-pub loop-i-init : goal.loop-i-init
-loop-i-init c = (omega arith, omega arith, parsed_some c.args.text.now c.if-text-eq0.false)
+pub loop-byte-init : goal.loop-byte-init
+loop-byte-init c = (omega arith, parsed_some c.args.text.now (search rules))
 
-pub returns-then-byte-lt48 : goal.returns-then-byte-lt48
-returns-then-byte-lt48 c =
-    let l = c.loop-i in
-    from_low c.args.text.now l.value l.i c.loop-i-test.true c.if-byte-lt48.true ∙ l.invariant.2
+pub returns-then-not-is_ascii_digit : goal.returns-then-not-is_ascii_digit
+returns-then-not-is_ascii_digit c =
+    let l = c.loop-byte in
+    from_other c.args.text.now l.value l.byte-index c.loop-byte-test.true (sym c.if-not-is_ascii_digit.ensures.value) ∙ l.invariant.1
 
-pub returns-then-byte-gt57 : goal.returns-then-byte-gt57
-returns-then-byte-gt57 c =
-    let l = c.loop-i in
-    from_high c.args.text.now l.value l.i c.loop-i-test.true c.if-byte-gt57.true ∙ l.invariant.2
-
-pub loop-i-preserved : goal.loop-i-preserved
-loop-i-preserved c =
-    let l = c.loop-i in
+pub loop-byte-preserved : goal.loop-byte-preserved
+loop-byte-preserved c =
+    let l = c.loop-byte in
     let text = c.args.text.now in
     let d = c.with_digit-value.ensures in (
-      omega arith,
-      omega (arith, d, with_digit_small l.value _ c.if-byte-gt57.false l.invariant.1),
-      rw d (sym (from_more text l.value l.i c.loop-i-test.true c.if-byte-lt48.false c.if-byte-gt57.false) ∙ l.invariant.2),
+      omega (arith, d, with_digit_small l.value _ c.if-not-is_ascii_digit.ensures.cases.1 l.invariant.0),
+      rw d (sym (from_more text l.value l.byte-index c.loop-byte-test.true (sym c.if-not-is_ascii_digit.ensures.value)) ∙ l.invariant.1),
     )
-
-pub returns-then-value-gt4294967295 : goal.returns-then-value-gt4294967295
-returns-then-value-gt4294967295 c =
-    let l = c.loop-i in
-    from_large c.args.text.now l.value l.i c.loop-i-test.false c.if-value-gt4294967295.true ∙ l.invariant.2
 
 pub returns : goal.returns
 returns c =
-    let l = c.loop-i in
-    from_number c.args.text.now l.value l.i c.loop-i-test.false (omega (arith, c.if-value-gt4294967295.false)) ∙ l.invariant.2
+    let l = c.loop-byte in
+    c.or.ensures ∙ from_whole c.args.text.now l.value l.byte-index c.loop-byte-test.false c.try_from.result c.try_from.ensures ∙ l.invariant.1

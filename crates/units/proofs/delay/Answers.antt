@@ -1,4 +1,4 @@
--- `delay`'s test is its definition's maximum.
+-- `delay` is its definition's maximum.
 use mathlib.Core.Path.{◌≡◌, ap}
 use Prim.Native.Nat.{◌*◌, max}
 use native.Mathlib.Omega.{arith}
@@ -6,14 +6,8 @@ use Rattle.units.specs.Units.{picoseconds}
 use Rattle.units.specs.Rules.{ceil_div, delay}
 use Rattle.units.proofs.delay.Goals as goal
 
-pub returns-then-d-gt1 : goal.returns-then-d-gt1
-unfolding delay
-returns-then-d-gt1 c =
-    let e : c.scaled-d.result ≡ max 1 (ceil_div (c.args.r.0 * c.args.charge.0) 1000) = omega (arith, c.scaled-d.ensures) in
-    ap picoseconds e
-
 pub returns : goal.returns
 unfolding delay
 returns c =
-    let e : 1 ≡ max 1 (ceil_div (c.args.r.0 * c.args.charge.0) 1000) = omega (arith, c.scaled-d.ensures) in
+    let e : c.max.result ≡ max 1 (ceil_div (c.args.r.0 * c.args.charge.0) 1000) = omega (arith, c.scaled.ensures, c.max.ensures) in
     ap picoseconds e

@@ -6,36 +6,15 @@ use Rattle.vcd.proofs.put_changes.Goals as goal
 pub loop-i-init : goal.loop-i-init
 loop-i-init c = lined_none _ _ _ _
 
-pub offset_bounds-before-place : goal.offset_bounds-before-place
-offset_bounds-before-place c = omega (arith, c.requires.0.few, c.loop-i-test.true)
-
-pub bounds-before-place : goal.bounds-before-place
-bounds-before-place c = omega (arith, c.requires.0.few, c.requires.0.long, c.loop-i-test.true)
-
-pub offset_bounds-after-place : goal.offset_bounds-after-place
-offset_bounds-after-place c = omega (arith, c.requires.0.few, c.loop-i-test.true)
-
-pub bounds-after-place : goal.bounds-after-place
-bounds-after-place c = omega (arith, c.requires.0.few, c.requires.1.long, c.loop-i-test.true)
-
 pub put_change-end-requires : goal.put_change-end-requires
 unfolding change_lines
 put_change-end-requires c =
     let l = c.loop-i in
     (omega (arith, c.requires.0.few, c.loop-i-test.true), c.requires.1.bits l.i c.loop-i-test.true, lined_room l.invariant c.loop-i-test.true c.requires.2)
 
-pub overflow_add-i : goal.overflow_add-i
-overflow_add-i c = omega (arith, c.requires.0.few, c.loop-i-test.true)
-
-pub loop-i-smaller : goal.loop-i-smaller
-loop-i-smaller c = omega (arith, c.loop-i-test.true)
-
 pub loop-i-preserved : goal.loop-i-preserved
 unfolding change_lines
 loop-i-preserved c = lined_more c.loop-i.invariant c.loop-i-test.true c.requires.2 c.put_change-end.ensures
-
-pub shape_of-out : goal.shape_of-out
-shape_of-out c = c.loop-i.invariant.same
 
 pub returns : goal.returns
 unfolding change_lines

@@ -6,30 +6,15 @@ use Rattle.vcd.proofs.put_values.Goals as goal
 pub loop-i-init : goal.loop-i-init
 loop-i-init c = lined_none _ _ _ _
 
-pub offset_bounds-values-n : goal.offset_bounds-values-n
-offset_bounds-values-n c = omega (arith, c.requires.0.few, c.loop-i-test.true)
-
-pub bounds-values-n : goal.bounds-values-n
-bounds-values-n c = omega (arith, c.requires.0.few, c.requires.0.long, c.loop-i-test.true)
-
 pub put_value-end-requires : goal.put_value-end-requires
 unfolding value_lines
 put_value-end-requires c =
     let l = c.loop-i in
     (omega (arith, c.requires.0.few, c.loop-i-test.true), c.requires.0.bits l.i c.loop-i-test.true, lined_room l.invariant c.loop-i-test.true c.requires.1)
 
-pub overflow_add-i : goal.overflow_add-i
-overflow_add-i c = omega (arith, c.requires.0.few, c.loop-i-test.true)
-
-pub loop-i-smaller : goal.loop-i-smaller
-loop-i-smaller c = omega (arith, c.loop-i-test.true)
-
 pub loop-i-preserved : goal.loop-i-preserved
 unfolding value_lines
 loop-i-preserved c = lined_more c.loop-i.invariant c.loop-i-test.true c.requires.1 c.put_value-end.ensures
-
-pub shape_of-out : goal.shape_of-out
-shape_of-out c = c.loop-i.invariant.same
 
 pub returns : goal.returns
 unfolding value_lines

@@ -11,8 +11,5 @@ put_var-end-requires c = (omega (arith, c.requires.0, c.loop-i-test.true), lined
 pub loop-i-preserved : goal.loop-i-preserved
 loop-i-preserved c = lined_more c.loop-i.invariant c.loop-i-test.true c.requires.1 c.put_var-end.ensures
 
-pub shape_of-out : goal.shape_of-out
-shape_of-out c = c.loop-i.invariant.same
-
 pub returns : goal.returns
 returns c = lined_done c.loop-i.invariant c.loop-i-test.false

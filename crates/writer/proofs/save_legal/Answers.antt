@@ -14,7 +14,7 @@ pub returns-then-out-stated_length : goal.returns-then-out-stated_length
 returns-then-out-stated_length c =
     let room = length c.args.out.now in
     let h = ap stated_length (header_kept c.args.cell) in
-    saves_refused c.args.out.now _ Buffer (room_short room (circuit_of c.args.cell) (omega (arith, h, c.stated_length.ensures, c.if-out-stated_length.true))) c.refused.ensures
+    saves_refused c.args.out.now _ Buffer (room_short room (circuit_of c.args.cell) (omega (arith, h, c.stated_length.ensures, c.if-out-stated_length.true)))
 
 pub overflow_cast-result : goal.overflow_cast-result
 overflow_cast-result c =

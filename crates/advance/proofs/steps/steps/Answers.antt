@@ -1,3 +1,4 @@
+use Rattle.std.proofs.Common.{◌≡◌, Err, rules}
 use mathlib.Core.Path.{refl, sym, ◌∙◌}
 use Prim.Native.Nat.{ℕ}
 use native.Mathlib.Nat.{le_refl}
@@ -22,62 +23,38 @@ loop-time-init c = (going_start c.args.until (tidy_standing (record { opened = c
 pub slice_bounds-step-end : goal.slice_bounds-step-end
 slice_bounds-step-end c = sym c.loop-time.invariant.0.timed.least_long
 
-pub step-next-requires : goal.step-next-requires
-step-next-requires c =
+pub step-requires : goal.step-requires
+step-requires c =
     let g = c.loop-time.invariant in
     record { laid = (c.requires.laid.0, g.0.standing.opened, g.1, omega (arith, g.0.standing.opened.holds.ready.sized.most, g.0.timed.least_long)); r_value = (g.0.standing.sound, g.0.timed.time_is, g.0.timed.leasts) }
 
-pub shape_of-letter-then-refuses : goal.shape_of-letter-then-refuses
-shape_of-letter-then-refuses c = c.step-next.auto.letter ∙ c.loop-time.invariant.2
-
-pub shape_of-low-then-refuses : goal.shape_of-low-then-refuses
-shape_of-low-then-refuses c = c.step-next.auto.low ∙ c.loop-time.invariant.3
-
-pub shape_of-high-then-refuses : goal.shape_of-high-then-refuses
-shape_of-high-then-refuses c = c.step-next.auto.high ∙ c.loop-time.invariant.4
-
-pub shape_of-index-then-refuses : goal.shape_of-index-then-refuses
-shape_of-index-then-refuses c = c.step-next.auto.index ∙ c.loop-time.invariant.5
-
-pub shape_of-wletter-then-refuses : goal.shape_of-wletter-then-refuses
-shape_of-wletter-then-refuses c = c.step-next.auto.wletter ∙ c.loop-time.invariant.6
-
-pub shape_of-wlow-then-refuses : goal.shape_of-wlow-then-refuses
-shape_of-wlow-then-refuses c = c.step-next.auto.wlow ∙ c.loop-time.invariant.7
-
-pub shape_of-whigh-then-refuses : goal.shape_of-whigh-then-refuses
-shape_of-whigh-then-refuses c = c.step-next.auto.whigh ∙ c.loop-time.invariant.8
-
-pub shape_of-windex-then-refuses : goal.shape_of-windex-then-refuses
-shape_of-windex-then-refuses c = c.step-next.auto.windex ∙ c.loop-time.invariant.9
-
-pub returns-then-refuses : goal.returns-then-refuses
-returns-then-refuses c =
+pub returns-in_err-after : goal.returns-in_err-after
+returns-in_err-after c =
     let g = c.loop-time.invariant.0 in
-    tidy_reached (record { opened = c.requires.laid.1; sound = c.requires.r_value }) c.tidy-now.ensures c.args.until (length c.args.letter.now) (going_refused c.requires.laid.0 g (going_takes c.requires.laid.0 g c.loop-time-test.true) c.step-next.auto.letter c.step-next.ensures.reached (sym c.refuses.ensures ∙ c.if-refuses.true))
+    let e : c.from_residual.result ≡ Err c.in_err-after.field-0.0 = search rules in
+    rw e (tidy_reached (record { opened = c.requires.laid.1; sound = c.requires.r_value }) c.tidy-now.ensures c.args.until (length c.args.letter.now) (going_refused c.requires.laid.0 g (going_takes c.requires.laid.0 g c.loop-time-test.true) c.step.auto.letter c.in_err-after.ensures.reached))
 
 pub slice_bounds-time_after-end-in-loop-time : goal.slice_bounds-time_after-end-in-loop-time
-slice_bounds-time_after-end-in-loop-time c = sym (c.step-next.ensures.least_len_unchanged.0 ∙ c.loop-time.invariant.0.timed.least_long)
+slice_bounds-time_after-end-in-loop-time c = sym (c.in_ok-after.ensures.least_len_unchanged.0 ∙ c.loop-time.invariant.0.timed.least_long)
 
 pub time_after-time-requires-in-loop-time : goal.time_after-time-requires-in-loop-time
 time_after-time-requires-in-loop-time c =
     let g = c.loop-time.invariant.0 in
     let takes = going_takes c.requires.laid.0 g c.loop-time-test.true in
-    let no = sym c.refuses.ensures ∙ c.if-refuses.false in
-    let t = step_standing c.requires.laid.0 g.standing (going_taken c.requires.laid.0 g takes c.step-next.auto.letter c.step-next.ensures.reached no) takes.more in
-    record { laid = (c.requires.laid.0, t.opened.legible, t.sound); done_le_used = (le_refl _, omega (arith, t.opened.holds.ready.fits, t.opened.holds.ready.sized.most, c.step-next.ensures.least_len_unchanged.0, g.timed.least_long), c.step-next.ensures.least_len_unchanged.1 no) }
+    let t = step_standing c.requires.laid.0 g.standing (going_taken c.requires.laid.0 g takes c.step.auto.letter c.in_ok-after.ensures.reached) takes.more in
+    record { laid = (c.requires.laid.0, t.opened.legible, t.sound); done_le_used = (le_refl _, omega (arith, t.opened.holds.ready.fits, t.opened.holds.ready.sized.most, c.in_ok-after.ensures.least_len_unchanged.0, g.timed.least_long), c.in_ok-after.ensures.least_len_unchanged.1) }
 
 pub loop-time-smaller : goal.loop-time-smaller
 loop-time-smaller c =
     let g = c.loop-time.invariant.0 in
     let takes = going_takes c.requires.laid.0 g c.loop-time-test.true in
-    omega (arith, step_later c.requires.laid.0 g.standing (going_taken c.requires.laid.0 g takes c.step-next.auto.letter c.step-next.ensures.reached (sym c.refuses.ensures ∙ c.if-refuses.false)) takes.more)
+    omega (arith, step_later c.requires.laid.0 g.standing (going_taken c.requires.laid.0 g takes c.step.auto.letter c.in_ok-after.ensures.reached) takes.more)
 
 pub loop-time-preserved : goal.loop-time-preserved
 loop-time-preserved c =
     let v = c.loop-time.invariant in
-    let k = c.step-next.auto in
-    (going_next c.requires.laid.0 v.0 (going_takes c.requires.laid.0 v.0 c.loop-time-test.true) k.letter c.step-next.ensures.reached (sym c.refuses.ensures ∙ c.if-refuses.false) (record { time_is = c.time_after-time-in-loop-time.ensures.0; least_long = c.time_after-time-in-loop-time.ensures.1 ∙ c.step-next.ensures.least_len_unchanged.0 ∙ v.0.timed.least_long; leasts = c.time_after-time-in-loop-time.ensures.2 }), lent_again v.1 k.wletter k.wlow k.whigh k.windex, k.letter ∙ v.2, k.low ∙ v.3, k.high ∙ v.4, k.index ∙ v.5, k.wletter ∙ v.6, k.wlow ∙ v.7, k.whigh ∙ v.8, k.windex ∙ v.9)
+    let k = c.step.auto in
+    (going_next c.requires.laid.0 v.0 (going_takes c.requires.laid.0 v.0 c.loop-time-test.true) k.letter c.in_ok-after.ensures.reached (record { time_is = c.time_after-time-in-loop-time.ensures.0; least_long = c.time_after-time-in-loop-time.ensures.1 ∙ c.in_ok-after.ensures.least_len_unchanged.0 ∙ v.0.timed.least_long; leasts = c.time_after-time-in-loop-time.ensures.2 }), lent_again v.1 k.wletter k.wlow k.whigh k.windex, k.letter ∙ v.2, k.low ∙ v.3, k.high ∙ v.4, k.index ∙ v.5, k.wletter ∙ v.6, k.wlow ∙ v.7, k.whigh ∙ v.8, k.windex ∙ v.9)
 
 pub shape_of-letter : goal.shape_of-letter
 shape_of-letter c = c.loop-time.invariant.2

@@ -8,9 +8,6 @@ use Rattle.calls.proofs.close.closed.Goals as goal
 pub clear-requires : goal.clear-requires
 clear-requires c = tt
 
-pub refused-requires : goal.refused-requires
-refused-requires c = tt
-
 pub returns-in-Going : goal.returns-in-Going
 returns-in-Going c = closed_done (ap stopped c.in-Going.is)
 
@@ -24,4 +21,4 @@ pub shape_of-high : goal.shape_of-high
 shape_of-high c = omega (arith, c.clear.auto.high)
 
 pub returns-in-Full : goal.returns-in-Full
-returns-in-Full c = closed_full (ap stopped c.in-Full.is) c.clear.ensures c.refused.ensures
+returns-in-Full c = closed_full (ap stopped c.in-Full.is) c.clear.ensures

@@ -11,9 +11,6 @@ use Rattle.calls.proofs.store.store.Goals as goal
 pub lengths_legal-requires : goal.lengths_legal-requires
 lengths_legal-requires c = tt
 
-pub refused-requires : goal.refused-requires
-refused-requires c = tt
-
 pub shape_of-letter-then-not-lengths_legal : goal.shape_of-letter-then-not-lengths_legal
 shape_of-letter-then-not-lengths_legal c = omega arith
 
@@ -24,7 +21,7 @@ pub shape_of-high-then-not-lengths_legal : goal.shape_of-high-then-not-lengths_l
 shape_of-high-then-not-lengths_legal c = omega arith
 
 pub returns-then-not-lengths_legal : goal.returns-then-not-lengths_legal
-returns-then-not-lengths_legal c = stored_buffer c.args.what c.args.k c.args.letter.now c.args.low.now c.args.high.now c.args.used (sym c.lengths_legal.ensures ∙ not-true c.lengths_legal.result c.if-not-lengths_legal.true-raw) c.refused.ensures
+returns-then-not-lengths_legal c = stored_buffer c.args.what c.args.k c.args.letter.now c.args.low.now c.args.high.now c.args.used (sym c.lengths_legal.ensures ∙ not-true c.lengths_legal.result c.if-not-lengths_legal.true-raw)
 
 pub index_len-n-requires : goal.index_len-n-requires
 index_len-n-requires c = (lengths_record (columns c.args.letter.now c.args.low.now c.args.high.now) (sym c.lengths_legal.ensures ∙ not-false c.lengths_legal.result c.if-not-lengths_legal.false-raw)).most

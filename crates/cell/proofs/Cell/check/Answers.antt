@@ -3,7 +3,7 @@ use mathlib.Core.Path.{◌≡◌, refl, sym, ap, ◌∙◌}
 use mathlib.Core.Bool.{true}
 use borrow.Author.Tests.{not-true, not-false}
 use Rattle.refusal.specs.Answer.{reply_of}
-use Rattle.format.specs.Legal.{limits_kept, fields_legal, rising}
+use Rattle.format.specs.Legal.{limits_kept, fields_legal}
 use Rattle.cell.specs.Value.{circuit_of}
 use Rattle.cell.proofs.Kept.{counted}
 use Rattle.cell.proofs.Check.{check_by}

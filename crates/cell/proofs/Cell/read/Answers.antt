@@ -12,13 +12,14 @@ use Rattle.cell.proofs.Read.{read_by, header_counted}
 use Rattle.cell.proofs.Cell.read.Goals as goal
 
 pub returns-then-file-lt-RECORD_SIZE : goal.returns-then-file-lt-RECORD_SIZE
-returns-then-file-lt-RECORD_SIZE c = c.refused.ensures ∙ sym (ap reading (read_by _ (lt-leb _ _ c.if-file-lt-RECORD_SIZE.true) refl refl))
+unfolding reading
+returns-then-file-lt-RECORD_SIZE c = sym (ap reading (read_by _ (lt-leb _ _ c.if-file-lt-RECORD_SIZE.true) refl refl))
 
 pub returns-then-not-header_legal : goal.returns-then-not-header_legal
+unfolding reading
 returns-then-not-header_legal c =
     let started : leb record_size (length c.args.file.now) ≡ true = (le-leb record_size _ c.if-file-lt-RECORD_SIZE.false) in
-    c.refused-then-not-header_legal.ensures
-    ∙ sym (ap reading (read_by _ (started) (sym c.header_legal.ensures ∙ not-true _ c.if-not-header_legal.true-raw) refl))
+    sym (ap reading (read_by _ (started) (sym c.header_legal.ensures ∙ not-true _ c.if-not-header_legal.true-raw) refl))
 
 pub stated_length-requires : goal.stated_length-requires
 stated_length-requires c =
@@ -26,12 +27,12 @@ stated_length-requires c =
     header_counted _ _ c.file_header-header.ensures (legal)
 
 pub returns-then-file-stated_length : goal.returns-then-file-stated_length
+unfolding reading
 returns-then-file-stated_length c =
     let started : leb record_size (length c.args.file.now) ≡ true = (le-leb record_size _ c.if-file-lt-RECORD_SIZE.false) in
     let legal : header_legal c.args.file.now ≡ true = (sym c.header_legal.ensures ∙ not-false _ c.if-not-header_legal.false-raw) in
     let stated : c.stated_length.result ≡ stated_length (file_header c.args.file.now) = (c.stated_length.ensures ∙ ap stated_length c.file_header-header.ensures) in
-    c.refused-then-file-stated_length.ensures
-    ∙ sym (ap reading (read_by _ (started) (legal) (ne_eqb _ _ (λ e. c.if-file-stated_length.true (e ∙ sym (stated))))))
+    sym (ap reading (read_by _ (started) (legal) (ne_eqb _ _ (λ e. c.if-file-stated_length.true (e ∙ sym (stated))))))
 
 pub read_chains-requires : goal.read_chains-requires
 read_chains-requires c =

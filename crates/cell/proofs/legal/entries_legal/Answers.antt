@@ -1,21 +1,15 @@
-use mathlib.Core.Path.{refl}
-use native.Mathlib.Omega.{arith}
-use borrow.Author.Tests.{not-true, not-false}
+-- `legal::entries_legal` meets its contract: `all` asks each of them. Assumes nothing.
+use Rattle.std.proofs.Common.{◌≡◌, true, get_or, take, rules}
+use Rattle.std.specs.Prelude.{IsTrue, ◌↔◌, EachIndex}
+use Rattle.format.specs.Circuit.{no_entry}
 use Rattle.format.specs.Legal.{entry_legal}
 use Rattle.cell.specs.Value.{circuit_of}
-use Rattle.cell.proofs.Loops.{every_fails, every_next, every_ends}
+use Rattle.cell.proofs.Loops.{all_firsts}
 use Rattle.cell.proofs.legal.entries_legal.Goals as goal
-
-pub loop-i-init : goal.loop-i-init
-loop-i-init c = refl
-
-pub returns-then-not-entry_legal : goal.returns-then-not-entry_legal
-unfolding circuit_of
-returns-then-not-entry_legal c = every_fails _ _ _ _ _ (omega arith) c.loop-i.invariant c.entry_legal.ensures (not-true _ c.if-not-entry_legal.true-raw)
-
-pub loop-i-preserved : goal.loop-i-preserved
-loop-i-preserved c = every_next _ _ _ _ _ (omega arith) c.loop-i.invariant c.entry_legal.ensures (not-false _ c.if-not-entry_legal.false-raw)
 
 pub returns : goal.returns
 unfolding circuit_of
-returns c = every_ends _ _ _ _ c.loop-i.i (omega arith) c.loop-i.invariant
+returns c =
+    let run = take c.args.cell.header.entries c.args.cell.schedule in
+    let e : IsTrue c.all.result ↔ EachIndex run (λ k. entry_legal (circuit_of c.args.cell) (get_or run k no_entry) ≡ true) = search rules in
+    all_firsts (entry_legal (circuit_of c.args.cell)) _ no_entry c.args.cell.schedule c.all.result (search rules) e

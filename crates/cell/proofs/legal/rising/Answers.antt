@@ -1,17 +1,12 @@
-use native.Mathlib.Omega.{arith}
-use borrow.Author.Rules.{rules}
-use borrow.Author.Tests.{not-true, not-false}
-use Rattle.cell.proofs.Loops.{rising_starts, rising_fails, rising_next, rising_ends}
+-- `legal::rising` meets its contract: `is_sorted_by` compares each entry with the next. Assumes nothing.
+use Rattle.std.proofs.Common.{◌≡◌, take, rules}
+use Rattle.std.proofs.lemmas.Fn.{always_returns_same}
+use Rattle.std.specs.List.{IsAllAdjacentAnswer}
+use Rattle.format.specs.Legal.{before}
+use Rattle.cell.proofs.Loops.{sorted_firsts}
 use Rattle.cell.proofs.legal.rising.Goals as goal
 
-pub loop-i-init : goal.loop-i-init
-loop-i-init c = (search rules, rising_starts _ _)
-
-pub returns-then-not-before : goal.returns-then-not-before
-returns-then-not-before c = rising_fails _ _ _ (omega arith) c.loop-i.invariant.1 c.before-in-loop-i.ensures (not-true _ c.if-not-before.true-raw)
-
-pub loop-i-preserved : goal.loop-i-preserved
-loop-i-preserved c = (omega arith, rising_next _ _ _ (omega arith) c.loop-i.invariant.1 c.before-in-loop-i.ensures (not-false _ c.if-not-before.false-raw))
-
 pub returns : goal.returns
-returns c = rising_ends _ _ c.loop-i.i (omega arith) c.loop-i.invariant.1
+returns c =
+    let a : IsAllAdjacentAnswer (λ x y t. t ≡ before x y) (take c.args.count c.args.schedule) c.is_sorted_by.result = c.is_sorted_by.ensures.cases before (always_returns_same _ _ _ (λ a r f k. (search (rules, k), search rules))) in
+    sorted_firsts c.args.count c.args.schedule _ (search rules) a

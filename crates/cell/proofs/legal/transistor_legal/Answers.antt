@@ -1,7 +1,13 @@
--- `legal::transistor_legal` meets its contract: the six tests are the definition's. Assumes nothing.
+-- `legal::transistor_legal` meets its contract: the tests are the definition's. Assumes nothing.
+use Rattle.std.proofs.Common.{arith}
+use Rattle.std.proofs.lemmas.Grind.{common_steps}
 use Rattle.format.specs.Legal.{transistor_legal}
 use Rattle.cell.proofs.legal.transistor_legal.Goals as goal
 
-pub returns : goal.returns
+pub returns-then-t : goal.returns-then-t
 unfolding transistor_legal
-returns c = rw (c.node_number.ensures, c.node_number-2.ensures, c.node_number-3.ensures, c.within.ensures)
+returns-then-t c = grind (arith, common_steps)
+
+pub returns-else-t : goal.returns-else-t
+unfolding transistor_legal
+returns-else-t c = grind (arith, common_steps)

@@ -13,4 +13,4 @@ returns c =
     let lt : length c.args.ts ≡ 64 = search rules in
     let le : length c.args.es ≡ 64 = search rules in
     cell_read _ _ _ _ _ c.requires.full.header (omega arith) (omega arith) (omega arith)
-    c.nodes_at.ensures c.transistors_at.ensures c.entries_at.ensures
+    c.records_at.ensures c.records_at-2.ensures c.records_at-3.ensures

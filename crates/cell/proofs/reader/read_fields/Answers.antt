@@ -16,25 +16,25 @@ pub fields_legal-requires : goal.fields_legal-requires
 fields_legal-requires c = read_counted _ _ _ _ _ c.requires.full _ c.cell_at-cell.ensures
 
 pub returns-then-not-blank-fields_legal : goal.returns-then-not-blank-fields_legal
+unfolding reading
 returns-then-not-blank-fields_legal c =
     let circuit : Circuit = (circuit_at c.args.file.now c.args.header c.args.ns c.args.ts c.args.es) in
     let by : (k o : Bool) → c.blank.result && c.fields_legal.result ≡ k → rising (circuit_of c.cell_at-cell.result).schedule ≡ o
     → fields_at c.args.file.now c.args.header c.args.ns c.args.ts c.args.es ≡ check k Record (check o Order (answered (circuit))) = (λ k o. let a = c.args in
     fields_by a.file.now a.header a.ns a.ts a.es _ _ _ c.cell_at-cell.ensures c.blank.ensures c.fields_legal.ensures) in
-    c.refused.ensures ∙ sym (ap reading (by _ _ (not-true _ c.if-not-blank-fields_legal.true-raw) refl))
+    sym (ap reading (by _ _ (not-true _ c.if-not-blank-fields_legal.true-raw) refl))
 
 pub rising-requires : goal.rising-requires
 rising-requires c = (read_counted _ _ _ _ _ c.requires.full _ c.cell_at-cell.ensures).entries
 
 pub returns-then-not-rising : goal.returns-then-not-rising
-unfolding circuit_of
+unfolding circuit_of reading
 returns-then-not-rising c =
     let circuit : Circuit = (circuit_at c.args.file.now c.args.header c.args.ns c.args.ts c.args.es) in
     let by : (k o : Bool) → c.blank.result && c.fields_legal.result ≡ k → rising (circuit_of c.cell_at-cell.result).schedule ≡ o
     → fields_at c.args.file.now c.args.header c.args.ns c.args.ts c.args.es ≡ check k Record (check o Order (answered (circuit))) = (λ k o. let a = c.args in
     fields_by a.file.now a.header a.ns a.ts a.es _ _ _ c.cell_at-cell.ensures c.blank.ensures c.fields_legal.ensures) in
-    c.refused-then-not-rising.ensures
-    ∙ sym
+    sym
     (ap reading
     (by _ _ (not-false _ c.if-not-blank-fields_legal.false-raw)
     (sym c.rising.ensures ∙ not-true _ c.if-not-rising.true-raw)))

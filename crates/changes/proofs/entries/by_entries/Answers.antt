@@ -15,35 +15,8 @@ is_inner-requires c = (c.requires.0.long, c.requires.0.within, c.requires.1.most
 pub returns-then-not-is_inner : goal.returns-then-not-is_inner
 returns-then-not-is_inner c = outer_put c.requires.2 (is_inner (net_circuit c.args.net.now) c.args.n) (change_by (net_circuit c.args.net.now) c.args.time c.args.all c.args.n (at c.args.net.now 3) (held c.args.letter.now c.args.low.now c.args.high.now c.args.used) c.args.entries.now) (sym c.is_inner.ensures ∙ not-true _ c.if-not-is_inner.true-raw)
 
-pub bounds-net-3 : goal.bounds-net-3
-bounds-net-3 c = omega (arith, c.requires.0.long)
-
 pub evaluate-requires : goal.evaluate-requires
 evaluate-requires c = (record { cell = c.requires.0; node = c.requires.1; inner = not-true _ (sym c.is_inner.ensures ∙ not-false _ c.if-not-is_inner.false-raw) }, c.requires.2, c.requires.3, c.requires.4, omega arith)
-
-pub shape_of-letter : goal.shape_of-letter
-shape_of-letter c = omega (arith, c.evaluate.auto.letter)
-
-pub shape_of-low : goal.shape_of-low
-shape_of-low c = omega (arith, c.evaluate.auto.low)
-
-pub shape_of-high : goal.shape_of-high
-shape_of-high c = omega (arith, c.evaluate.auto.high)
-
-pub shape_of-index : goal.shape_of-index
-shape_of-index c = omega (arith, c.evaluate.auto.index)
-
-pub shape_of-wletter : goal.shape_of-wletter
-shape_of-wletter c = omega (arith, c.evaluate.auto.wletter)
-
-pub shape_of-wlow : goal.shape_of-wlow
-shape_of-wlow c = omega (arith, c.evaluate.auto.wlow)
-
-pub shape_of-whigh : goal.shape_of-whigh
-shape_of-whigh c = omega (arith, c.evaluate.auto.whigh)
-
-pub shape_of-windex : goal.shape_of-windex
-shape_of-windex c = omega (arith, c.evaluate.auto.windex)
 
 pub returns : goal.returns
 returns c = inner_put (at c.args.net.now 3) (is_inner (net_circuit c.args.net.now) c.args.n) (change_by (net_circuit c.args.net.now) c.args.time c.args.all c.args.n (at c.args.net.now 3) (held c.args.letter.now c.args.low.now c.args.high.now c.args.used) c.args.entries.now) (sym c.is_inner.ensures ∙ not-false _ c.if-not-is_inner.false-raw) c.evaluate.ensures

@@ -1,6 +1,5 @@
 use mathlib.Core.Path.{refl, sym, ◌∙◌}
 use native.Mathlib.Omega.{arith}
-use borrow.Author.Tests.{not-true}
 use Rattle.lists.proofs.Cases.{true_false}
 use Rattle.net.specs.Roots.{pending_place}
 use Rattle.functions.proofs.Halving.{low_open, high_full, high_holds, root_done}
@@ -12,65 +11,26 @@ use Rattle.descent.proofs.Remember.{memo_join}
 use Rattle.descent.proofs.Recall.{stored_memo, stored_open, stored_small, kept_memo, hit_stored}
 use Rattle.descent.proofs.descend.+down.Goals as goal
 
-pub some_seed-requires : goal.some_seed-requires
-some_seed-requires t c = c.requires.live
-
-pub quiet-requires : goal.quiet-requires
-quiet-requires t c = record { legible = (c.requires.rooted.working, c.requires.rooted.operand pending_place (omega arith)); fact = c.requires.fact }
-
-pub shape_of-letter-then-not-some_seed : goal.shape_of-letter-then-not-some_seed
-shape_of-letter-then-not-some_seed t c = omega (arith, c.quiet.auto.letter)
-
-pub shape_of-low-then-not-some_seed : goal.shape_of-low-then-not-some_seed
-shape_of-low-then-not-some_seed t c = omega (arith, c.quiet.auto.low)
-
-pub shape_of-high-then-not-some_seed : goal.shape_of-high-then-not-some_seed
-shape_of-high-then-not-some_seed t c = omega (arith, c.quiet.auto.high)
-
-pub shape_of-index-then-not-some_seed : goal.shape_of-index-then-not-some_seed
-shape_of-index-then-not-some_seed t c = omega (arith, c.quiet.auto.index)
-
 pub returns-then-not-some_seed : goal.returns-then-not-some_seed
 returns-then-not-some_seed t c =
-    let d = quiet_stored c.requires.rooted (c.some_seed.ensures.0 (not-true _ c.if-not-some_seed.true-raw)) c.args.time c.quiet.ensures in
+    let d = quiet_stored c.requires.rooted (c.some_seed.ensures.0 c.if-not-some_seed.true) c.args.time c.quiet.ensures in
     record { outcome = d; memo_2 = stored_memo c.requires.rooted c.args.time c.requires.fact d c.requires.memo }
 
 pub narrow-total-requires : goal.narrow-total-requires
 narrow-total-requires t c = record { inner = c.requires.rooted.node; live = (c.requires.live, live_zeros c.requires.live.places, refl) }
-
-pub some_seed-requires-then-total-count : goal.some_seed-requires-then-total-count
-some_seed-requires-then-total-count t c = c.narrow-total.ensures.live_2
 
 pub quiet-requires-then-not-some_seed-2 : goal.quiet-requires-then-not-some_seed-2
 quiet-requires-then-not-some_seed-2 t c =
     let ready = narrow_ready c.requires.rooted c.narrow-total.ensures.narrowed in
     record { legible = (ready.working, ready.operand pending_place (omega arith)); fact = c.requires.fact }
 
-pub shape_of-letter-then-not-some_seed-2 : goal.shape_of-letter-then-not-some_seed-2
-shape_of-letter-then-not-some_seed-2 t c = omega (arith, c.quiet-then-not-some_seed-2.auto.letter)
-
-pub shape_of-low-then-not-some_seed-2 : goal.shape_of-low-then-not-some_seed-2
-shape_of-low-then-not-some_seed-2 t c = omega (arith, c.quiet-then-not-some_seed-2.auto.low)
-
-pub shape_of-high-then-not-some_seed-2 : goal.shape_of-high-then-not-some_seed-2
-shape_of-high-then-not-some_seed-2 t c = omega (arith, c.quiet-then-not-some_seed-2.auto.high)
-
-pub shape_of-index-then-not-some_seed-2 : goal.shape_of-index-then-not-some_seed-2
-shape_of-index-then-not-some_seed-2 t c = omega (arith, c.quiet-then-not-some_seed-2.auto.index)
-
 pub returns-then-not-some_seed-2 : goal.returns-then-not-some_seed-2
 returns-then-not-some_seed-2 t c =
-    let d = narrow_quiet c.requires.rooted c.narrow-total.ensures.narrowed (c.some_seed-then-total-count.ensures.0 (not-true _ c.if-not-some_seed-2.true-raw)) c.args.time c.quiet-then-not-some_seed-2.ensures in
+    let d = narrow_quiet c.requires.rooted c.narrow-total.ensures.narrowed (c.some_seed-then-total-count.ensures.0 c.if-not-some_seed-2.true) c.args.time c.quiet-then-not-some_seed-2.ensures in
     record { outcome = d; memo_2 = stored_memo c.requires.rooted c.args.time c.requires.fact d c.requires.memo }
 
 pub least_live-m-requires : goal.least_live-m-requires
 least_live-m-requires t c = record { entries = (ready_entries (narrow_ready c.requires.rooted c.narrow-total.ensures.narrowed) _ refl, zero_letter c.requires.rooted.working); live = c.narrow-total.ensures.live_2 }
-
-pub bucket-slot-requires : goal.bucket-slot-requires
-bucket-slot-requires t c = c.narrow-total.ensures.live_2.places
-
-pub look-old-requires : goal.look-old-requires
-look-old-requires t c = record { slot_lt_slots = c.bucket-slot.ensures; memo_length_in_bounds = (c.requires.memo.long, c.narrow-total.ensures.narrowed.long) }
 
 pub returns-then-old-ne0 : goal.returns-then-old-ne0
 returns-then-old-ne0 t c = record { outcome = hit_stored c.requires.rooted c.args.time c.requires.fact c.narrow-total.ensures.narrowed c.requires.memo c.bucket-slot.ensures c.look-old.ensures c.if-old-ne0.true; memo_2 = λ _. c.requires.memo }
@@ -82,21 +42,6 @@ pub remember-requires : goal.remember-requires
 remember-requires t c =
     let d = leaf_stored c.requires.rooted c.narrow-total.ensures.narrowed c.least_live-m.ensures c.if-m.true c.args.time c.leaf-p.ensures in
     record { slot_lt_slots = (c.bucket-slot.ensures, λ room. omega (arith, stored_small c.requires.rooted c.args.time c.requires.fact d room)); memo_length_in_bounds = (c.requires.memo.long, c.narrow-total.ensures.narrowed.long) }
-
-pub shape_of-letter-then-m : goal.shape_of-letter-then-m
-shape_of-letter-then-m t c = omega (arith, c.leaf-p.auto.letter)
-
-pub shape_of-low-then-m : goal.shape_of-low-then-m
-shape_of-low-then-m t c = omega (arith, c.leaf-p.auto.low)
-
-pub shape_of-high-then-m : goal.shape_of-high-then-m
-shape_of-high-then-m t c = omega (arith, c.leaf-p.auto.high)
-
-pub shape_of-index-then-m : goal.shape_of-index-then-m
-shape_of-index-then-m t c = omega (arith, c.leaf-p.auto.index)
-
-pub shape_of-memo-then-m : goal.shape_of-memo-then-m
-shape_of-memo-then-m t c = omega (arith, c.remember.auto.memo)
 
 pub returns-then-m : goal.returns-then-m
 returns-then-m t c =
@@ -112,21 +57,6 @@ overflow_sub-left t c = letter_left c.requires.rooted c.narrow-total.ensures.nar
 pub down-p-requires : goal.down-p-requires
 down-p-requires t c = (omega (arith, c.decreases, letter_left c.requires.rooted c.narrow-total.ensures.narrowed c.least_live-m.ensures c.if-m.false), (lows_ready c.requires.rooted c.narrow-total.ensures.narrowed c.least_live-m.ensures c.if-m.false c.halve.ensures, (half_live c.narrow-total.ensures.live_2 (letter_other c.requires.rooted c.narrow-total.ensures.narrowed c.least_live-m.ensures c.if-m.false) c.halve.ensures, (c.requires.fact, c.requires.memo))))
 
-pub shape_of-letter-then-stopped : goal.shape_of-letter-then-stopped
-shape_of-letter-then-stopped t c = omega (arith, c.down-p.auto.letter)
-
-pub shape_of-low-then-stopped : goal.shape_of-low-then-stopped
-shape_of-low-then-stopped t c = omega (arith, c.down-p.auto.low)
-
-pub shape_of-high-then-stopped : goal.shape_of-high-then-stopped
-shape_of-high-then-stopped t c = omega (arith, c.down-p.auto.high)
-
-pub shape_of-index-then-stopped : goal.shape_of-index-then-stopped
-shape_of-index-then-stopped t c = omega (arith, c.down-p.auto.index)
-
-pub shape_of-memo-then-stopped : goal.shape_of-memo-then-stopped
-shape_of-memo-then-stopped t c = omega (arith, c.down-p.auto.memo)
-
 pub returns-then-stopped : goal.returns-then-stopped
 returns-then-stopped t c = record { outcome = low_stopped c.requires.rooted c.narrow-total.ensures.narrowed c.least_live-m.ensures c.if-m.false c.halve.ensures c.args.time c.requires.fact c.down-p.ensures.outcome (sym c.stopped.ensures ∙ c.if-stopped.true); memo_2 = λ e. true_false _ (sym c.stopped.ensures ∙ c.if-stopped.true) e }
 
@@ -139,21 +69,6 @@ overflow_sub-left-2 t c = letter_left c.requires.rooted c.narrow-total.ensures.n
 pub down-q-requires : goal.down-q-requires
 down-q-requires t c = (omega (arith, c.decreases, letter_left c.requires.rooted c.narrow-total.ensures.narrowed c.least_live-m.ensures c.if-m.false), ((highs_ready c.requires.rooted c.narrow-total.ensures.narrowed c.least_live-m.ensures c.if-m.false c.halve-2.ensures), (half_live c.narrow-total.ensures.live_2 (letter_other c.requires.rooted c.narrow-total.ensures.narrowed c.least_live-m.ensures c.if-m.false) c.halve-2.ensures, ((low_open c.requires.fact (halves_stored c.requires.rooted c.narrow-total.ensures.narrowed c.least_live-m.ensures c.if-m.false c.halve.ensures c.halve-2.ensures c.args.time c.requires.fact) c.down-p.ensures.outcome (sym c.stopped.ensures ∙ c.if-stopped.false)), (c.down-p.ensures.memo_2 (sym c.stopped.ensures ∙ c.if-stopped.false))))))
 
-pub shape_of-letter-then-stopped-2 : goal.shape_of-letter-then-stopped-2
-shape_of-letter-then-stopped-2 t c = omega (arith, c.down-p.auto.letter, c.down-q.auto.letter)
-
-pub shape_of-low-then-stopped-2 : goal.shape_of-low-then-stopped-2
-shape_of-low-then-stopped-2 t c = omega (arith, c.down-p.auto.low, c.down-q.auto.low)
-
-pub shape_of-high-then-stopped-2 : goal.shape_of-high-then-stopped-2
-shape_of-high-then-stopped-2 t c = omega (arith, c.down-p.auto.high, c.down-q.auto.high)
-
-pub shape_of-index-then-stopped-2 : goal.shape_of-index-then-stopped-2
-shape_of-index-then-stopped-2 t c = omega (arith, c.down-p.auto.index, c.down-q.auto.index)
-
-pub shape_of-memo-then-stopped-2 : goal.shape_of-memo-then-stopped-2
-shape_of-memo-then-stopped-2 t c = omega (arith, c.down-p.auto.memo, c.down-q.auto.memo)
-
 pub returns-then-stopped-2 : goal.returns-then-stopped-2
 returns-then-stopped-2 t c = record { outcome = high_full c.requires.fact (halves_stored c.requires.rooted c.narrow-total.ensures.narrowed c.least_live-m.ensures c.if-m.false c.halve.ensures c.halve-2.ensures c.args.time c.requires.fact) c.down-p.ensures.outcome (sym c.stopped.ensures ∙ c.if-stopped.false) c.down-q.ensures.outcome (sym c.stopped-2.ensures ∙ c.if-stopped-2.true); memo_2 = λ e. true_false _ (sym c.stopped-2.ensures ∙ c.if-stopped-2.true) e }
 
@@ -162,21 +77,6 @@ join-r-requires t c = high_holds c.requires.fact (halves_stored c.requires.roote
 
 pub remember-requires-2 : goal.remember-requires-2
 remember-requires-2 t c = record { slot_lt_slots = (c.bucket-slot.ensures, λ room. omega (arith, stored_small c.requires.rooted c.args.time c.requires.fact (root_done c.requires.fact (halves_stored c.requires.rooted c.narrow-total.ensures.narrowed c.least_live-m.ensures c.if-m.false c.halve.ensures c.halve-2.ensures c.args.time c.requires.fact) c.down-p.ensures.outcome (sym c.stopped.ensures ∙ c.if-stopped.false) c.down-q.ensures.outcome (sym c.stopped-2.ensures ∙ c.if-stopped-2.false) c.join-r.ensures) room)); memo_length_in_bounds = ((c.down-q.ensures.memo_2 (sym c.stopped-2.ensures ∙ c.if-stopped-2.false)).long, c.narrow-total.ensures.narrowed.long) }
-
-pub shape_of-letter : goal.shape_of-letter
-shape_of-letter t c = omega (arith, c.down-p.auto.letter, c.down-q.auto.letter, c.join-r.auto.letter)
-
-pub shape_of-low : goal.shape_of-low
-shape_of-low t c = omega (arith, c.down-p.auto.low, c.down-q.auto.low, c.join-r.auto.low)
-
-pub shape_of-high : goal.shape_of-high
-shape_of-high t c = omega (arith, c.down-p.auto.high, c.down-q.auto.high, c.join-r.auto.high)
-
-pub shape_of-index : goal.shape_of-index
-shape_of-index t c = omega (arith, c.down-p.auto.index, c.down-q.auto.index, c.join-r.auto.index)
-
-pub shape_of-memo : goal.shape_of-memo
-shape_of-memo t c = omega (arith, c.down-p.auto.memo, c.down-q.auto.memo, c.remember-2.auto.memo)
 
 pub returns : goal.returns
 returns t c =

@@ -5,6 +5,3 @@ use Rattle.descent.proofs.descend.alone.Goals as goal
 
 pub down-requires : goal.down-requires
 down-requires c = record { rooted = c.requires.rooted; live = live_all c.requires.rooted.long c.all_places-live.ensures.0 c.all_places-live.ensures.1; fact = c.requires.fact; memo = memo_new _ }
-
-pub returns : goal.returns
-returns c = c.down.ensures.outcome

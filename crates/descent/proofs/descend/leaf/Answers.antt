@@ -3,12 +3,6 @@ use Rattle.functions.proofs.Applying.{leaf_done}
 use Rattle.descent.proofs.Going.{leaf_settleable, leaf_number}
 use Rattle.descent.proofs.descend.leaf.Goals as goal
 
-pub live_numbers-numbers-requires : goal.live_numbers-numbers-requires
-live_numbers-numbers-requires c = record { entries = (c.requires.leaf_of.0.entries, c.requires.leaf_of.1); live = c.requires.live }
-
-pub reached-moves-requires : goal.reached-moves-requires
-reached-moves-requires c = c.requires.leaf_of.0.node
-
 pub settled-v-requires : goal.settled-v-requires
 settled-v-requires c = (leaf_settleable c.requires.leaf_of.0 c.live_numbers-numbers.ensures, c.reached-moves.ensures)
 

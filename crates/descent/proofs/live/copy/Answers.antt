@@ -1,37 +1,23 @@
+use mathlib.Core.Path.{◌≡◌, refl, ◌∙◌}
+use Prim.Native.Nat.{◌-◌}
 use native.Mathlib.Omega.{arith}
-use mathlib.Core.Path.{refl}
-use Rattle.descent.proofs.Listed.{at_none, at_next, listed_none, listed_next, copied}
+use lib.ListN.{length, take, length-append, length-drop}
+use lib.Seq.{length-take-le}
+use borrow.Rule.Slice.PartMut.{post_of}
+use Rattle.descent.proofs.Listed.{at_none, at_next, copied}
 use Rattle.descent.proofs.live.copy.Goals as goal
 
-pub loop-i-init : goal.loop-i-init
-loop-i-init c = (omega arith, at_none _ c.requires.1, listed_none c.requires.2)
+pub loop-place-init : goal.loop-place-init
+loop-place-init c = at_none _ c.requires.1
 
-pub bounds-live-k : goal.bounds-live-k
-bounds-live-k c = omega (arith, c.requires.0.places.few, c.loop-i-test.true)
-
-pub overflow_cast-at : goal.overflow_cast-at
-overflow_cast-at c = record { fits = omega (arith, c.requires.0.places.place c.loop-i.i c.loop-i-test.true) }
-
-pub offset_bounds-roots-at : goal.offset_bounds-roots-at
-offset_bounds-roots-at c = record { fits = omega (arith, c.requires.0.places.place c.loop-i.i c.loop-i-test.true) }
-
-pub bounds-roots-at : goal.bounds-roots-at
-bounds-roots-at c = c.requires.0.places.place c.loop-i.i c.loop-i-test.true
-
-pub offset_bounds-out-at : goal.offset_bounds-out-at
-offset_bounds-out-at c = record { fits = omega (arith, c.requires.0.places.place c.loop-i.i c.loop-i-test.true) }
-
-pub bounds-out-at : goal.bounds-out-at
-bounds-out-at c = c.requires.0.places.place c.loop-i.i c.loop-i-test.true
-
-pub offset_bounds-list-k : goal.offset_bounds-list-k
-offset_bounds-list-k c = record { fits = omega (arith, c.requires.0.places.few, c.loop-i-test.true) }
-
-pub bounds-list-k : goal.bounds-list-k
-bounds-list-k c = omega (arith, c.requires.0.places.few, c.loop-i-test.true, c.loop-i.invariant.2.long)
-
-pub loop-i-preserved : goal.loop-i-preserved
-loop-i-preserved c = (omega arith, at_next c.loop-i.invariant.1 c.requires.0.places c.loop-i-test.true _ refl, listed_next c.loop-i.invariant.2 (omega (arith, c.requires.0.places.few, c.loop-i-test.true)))
+pub loop-place-preserved : goal.loop-place-preserved
+loop-place-preserved c = at_next c.loop-place.invariant c.requires.0.places c.loop-place-test.true _ refl
 
 pub returns : goal.returns
-returns c = copied c.requires.0 c.loop-i.invariant.1 c.loop-i.invariant.2 c.loop-i-test.false
+returns c =
+    let list = c.args.list.now in
+    let few = c.requires.0.places.few in
+    let tail : length (post_of 0 c.args.count list) ≡ length list - c.args.count = length-drop c.args.count list in
+    let front : length (take c.args.count list) ≡ c.args.count = length-take-le c.args.count list (omega (arith, few, c.requires.2)) in
+    copied _ c.requires.0 c.loop-place.invariant c.loop-place-test.false c.copy_from_slice.ensures.after
+    (length-append c.copy_from_slice.new.self (post_of 0 c.args.count list) ∙ omega (arith, c.copy_from_slice.ensures.len, front, tail, few, c.requires.2))

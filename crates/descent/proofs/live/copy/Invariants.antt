@@ -1,11 +1,8 @@
--- `copy`: the listed places before i hold the roots, and are listed again.
-use Prim.Native.Nat.{ℕ, ◌-◌, ◌≤◌}
+-- `copy`: the listed places before the index hold the roots.
+use Prim.Native.Nat.{ℕ}
 use lib.ListN.{get_or}
-use Rattle.descent.proofs.Listed.{FilledAt, ListedTo}
+use Rattle.descent.proofs.Listed.{FilledAt}
 use Rattle.descent.proofs.live.copy.Given as goal
 
-abbrev pub invariant-loop-i : goal.invariant-loop-i
-invariant-loop-i l = (l.i ≤ l.count) × FilledAt (λ (j : ℕ). get_or l.roots j 0) l.live l.count l.i l.out × ListedTo l.live l.i l.list
-
-abbrev pub decreases-loop-i : goal.decreases-loop-i
-decreases-loop-i l = l.count - l.i
+abbrev pub invariant-loop-place : goal.invariant-loop-place
+invariant-loop-place l = FilledAt (λ (j : ℕ). get_or l.roots j 0) l.live l.count l.place-index l.out

@@ -1,14 +1,7 @@
 use native.Mathlib.Omega.{arith}
+use Rattle.std.proofs.iter.Serving.{serving}
+use Rattle.descent.proofs.Listed.{taken_place}
 use Rattle.descent.proofs.live.some_zero.Goals as goal
 
-pub bounds-live-k : goal.bounds-live-k
-bounds-live-k c = omega (arith, c.requires.places.few, c.loop-i-test.true)
-
-pub overflow_cast-at : goal.overflow_cast-at
-overflow_cast-at c = record { fits = omega (arith, c.requires.places.place c.loop-i.i c.loop-i-test.true) }
-
-pub offset_bounds-roots-at : goal.offset_bounds-roots-at
-offset_bounds-roots-at c = record { fits = omega (arith, c.requires.places.place c.loop-i.i c.loop-i-test.true) }
-
-pub bounds-roots-at : goal.bounds-roots-at
-bounds-roots-at c = c.requires.places.place c.loop-i.i c.loop-i-test.true
+pub any-requires-clause-callable : goal.any-requires-clause-callable
+any-requires-clause-callable c = grind (serving, arith, taken_place c.requires.places, c.iter.ensures.rest)

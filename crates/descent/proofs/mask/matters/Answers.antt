@@ -1,6 +1,5 @@
 -- `matters`, by the kind of the place.
 use mathlib.Core.Path.{sym, ◌∙◌}
-use native.Mathlib.Omega.{arith}
 use borrow.Author.Tests.{eq-eqb, ne_eqb}
 use Rattle.descent.proofs.Matters.{matters_rail, matters_node, matters_arm, matters_seed, matters_late}
 use Rattle.descent.proofs.mask.matters.Goals as goal
@@ -16,9 +15,6 @@ returns-then-j-lt-LEAF c = c.touching.ensures ∙ sym (matters_arm _ _ _ _ c.if-
 
 pub returns-then-sole-ne0 : goal.returns-then-sole-ne0
 returns-then-sole-ne0 c = sym (matters_seed _ _ _ _ c.if-j-lt-LEAF.false c.if-j-lt-PENDING.true ∙ rw (ne_eqb _ _ c.if-sole-ne0.true))
-
-pub bounds-marks-at-then-j-lt-PENDING : goal.bounds-marks-at-then-j-lt-PENDING
-bounds-marks-at-then-j-lt-PENDING c = omega (arith, c.if-j-lt-PENDING.true)
 
 pub returns-then-j-lt-PENDING : goal.returns-then-j-lt-PENDING
 returns-then-j-lt-PENDING c = sym (matters_seed _ _ _ _ c.if-j-lt-LEAF.false c.if-j-lt-PENDING.true ∙ rw (eq-eqb _ _ c.if-sole-ne0.false))

@@ -1,15 +1,12 @@
+use mathlib.Core.Path.{sym}
 use native.Mathlib.Omega.{arith}
-use Rattle.descent.proofs.Slots.{free_none, free_next}
+use lib.Seq.{length-take-le}
+use Rattle.descent.specs.Memo.{slots}
+use Rattle.descent.proofs.Slots.{freed}
 use Rattle.descent.proofs.memo.forget.Goals as goal
 
-pub loop-i-init : goal.loop-i-init
-loop-i-init c = (omega arith, free_none _)
-
-pub loop-i-preserved : goal.loop-i-preserved
-loop-i-preserved c = (omega arith, free_next c.requires c.loop-i-test.true c.loop-i.invariant.1)
-
-pub shape_of-memo : goal.shape_of-memo
-shape_of-memo c = c.loop-i.invariant.1.long
+pub slice_bounds-fill-end-2 : goal.slice_bounds-fill-end-2
+slice_bounds-fill-end-2 c = sym (length-take-le slots c.args.memo.now (omega (arith, c.requires)))
 
 pub returns : goal.returns
-returns c = λ s h. c.loop-i.invariant.1.is s (omega arith)
+returns c = freed c.args.memo.now c.fill.new.self c.requires (c.fill.ensures.after (λ y e. e))

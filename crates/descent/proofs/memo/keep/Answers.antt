@@ -1,18 +1,15 @@
 use mathlib.Core.Path.{◌∙◌}
-use Prim.Native.Nat.{◌+◌}
+use Prim.Native.Nat.{◌+◌, ◌*◌}
 use native.Mathlib.Omega.{arith}
-use lib.ListN.{length-set}
-use Rattle.descent.proofs.Slots.{kept_none, kept_next, kept_all}
+use Rattle.std.proofs.lemmas.Slice.{put_mid-paste}
+use Rattle.std.proofs.lemmas.List.Edits.{paste_all}
+use Rattle.net.specs.Roots.{roots_length}
+use Rattle.descent.specs.Memo.{slots}
+use Rattle.descent.proofs.Slots.{kept_all}
 use Rattle.descent.proofs.memo.keep.Goals as goal
 
-pub loop-i-init : goal.loop-i-init
-loop-i-init c = (omega arith, kept_none _ _ _)
-
-pub loop-i-preserved : goal.loop-i-preserved
-loop-i-preserved c = (omega arith, kept_next c.requires.memo_length_in_bounds.0 c.requires.slot_lt_slots.0 c.loop-i-test.true c.loop-i.invariant.1)
-
-pub shape_of-memo : goal.shape_of-memo
-shape_of-memo c = length-set c.loop-i.memo c.args.slot (c.args.e + 1) ∙ c.loop-i.invariant.1.long
-
 pub returns : goal.returns
-returns c = kept_all c.requires.memo_length_in_bounds.0 c.requires.slot_lt_slots.0 c.requires.memo_length_in_bounds.1 (omega arith) c.loop-i.invariant.1
+returns c =
+    let from = slots + roots_length * c.args.slot in
+    let long = c.requires.memo_length_in_bounds.1 in
+    kept_all _ _ _ _ c.requires.memo_length_in_bounds.0 c.requires.slot_lt_slots.0 long (put_mid-paste from _ c.args.memo.now _ c.args.roots.now roots_length c.copy_from_slice.ensures.after (omega arith) (omega (arith, long)) ∙ paste_all c.args.memo.now from c.args.roots.now roots_length (omega (arith, long))) c.args.e

@@ -2,5 +2,5 @@
 use mathlib.Core.Path.{refl}
 use Rattle.editor.proofs.runs.give_run.Goals as goal
 
-pub returns-in-Done : goal.returns-in-Done
-returns-in-Done c = rw c.in-Done.is (refl, c.write_record.ensures)
+pub returns-in-Ok : goal.returns-in-Ok
+returns-in-Ok c = rw c.in-Ok.is (refl, c.write_record.ensures)

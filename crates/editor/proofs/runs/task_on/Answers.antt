@@ -7,7 +7,7 @@ pub returns-then-record-ne-RECORD : goal.returns-then-record-ne-RECORD
 returns-then-record-ne-RECORD c =
     let table = columns c.args.letter.now c.args.low.now c.args.high.now in
     let working = columns c.args.work_letter.now c.args.work_low.now c.args.work_high.now in
-    task_buffer (other_length c.args.file.now c.args.task table c.args.«record».now working c.if-record-ne-RECORD.true) c.refusal_number.ensures
+    task_buffer (other_length c.args.file.now c.args.task table c.args.«record».now working c.if-record-ne-RECORD.true) c.from.ensures
 
 pub returns : goal.returns
 returns c =
@@ -18,4 +18,4 @@ returns c =
     let done = c.on_file-went in
     let table' = columns done.new.letter done.new.low done.new.high in
     let working' = columns done.new.wletter done.new.wlow done.new.whigh in
-    task_done {table = table} {table' = table'} {working = working} {working' = working'} _ same read.ensures done.ensures c.give_run.ensures
+    task_done {table = table} {table' = table'} {working = working} {working' = working'} _ same done.ensures c.give_run.ensures

@@ -5,5 +5,5 @@ use Rattle.editor.proofs.saves.sts_small.Goals as goal
 pub returns : goal.returns
 returns c =
     let s = c.save_small-saving in
-    let n = c.give_length.ensures in
+    let n = c.give_number.ensures in
     save_call _ s.result s.ensures n.0 n.1

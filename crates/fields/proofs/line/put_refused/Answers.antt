@@ -19,13 +19,13 @@ put_bytes-word-requires c = omega (arith, c.requires, simp length-append at (ref
 pub put_ended-requires : goal.put_ended-requires
 unfolding refused_line
 put_ended-requires c =
-    let n = c.refusal_number-number in
+    let n = c.from-number in
     wrote_room (ended n.result) c.put_bytes-word.ensures
     (simp length-append (omega (arith, c.requires, ap (λ (k : ℕ). length (decimal k)) n.ensures, simp length-append at (refused_short c.args.why))))
 
 pub returns : goal.returns
 unfolding refused_line
 returns c =
-    let n = c.refusal_number-number in
+    let n = c.from-number in
     let w : Wrote _ _ _ (refused_word ++ ended n.result) _ = wrote_then c.put_bytes-word.ensures c.put_ended.ensures (omega (arith, c.requires)) in
     record { wrote = rw (← n.ensures) w; short = refused_short c.args.why }

@@ -11,92 +11,20 @@ use native.Mathlib.Omega.{arith}
 use Rattle.diagram.specs.Held.{held}
 use Rattle.marked.proofs.nodes.all_by_marks.Goals as goal
 
-pub bounds-net-0 : goal.bounds-net-0
-bounds-net-0 c = omega (arith, c.requires.0.cell.long)
-
-pub overflow_cast-count : goal.overflow_cast-count
-overflow_cast-count c = omega (arith, c.requires.0.cell.within.nodes)
-
 pub loop-i-init : goal.loop-i-init
 loop-i-init c = (storing_first (length (net_circuit c.args.net.now).nodes) (mixed_of (net_circuit c.args.net.now) c.args.time (at c.args.net.now 3) (held c.args.letter.now c.args.low.now c.args.high.now c.args.used) (held c.args.wletter.now c.args.wlow.now c.args.whigh.now c.args.wused) c.args.roots c.args.marks c.args.pending) c.requires.1, refl)
-
-pub overflow_cast-i : goal.overflow_cast-i
-overflow_cast-i c = omega (arith, c.requires.0.cell.within.nodes, c.loop-i-test.true)
-
-pub overflow_add-i : goal.overflow_add-i
-overflow_add-i c = omega (arith, c.requires.0.cell.within.nodes, c.loop-i-test.true)
-
-pub overflow_add-i-in-loop-i : goal.overflow_add-i-in-loop-i
-overflow_add-i-in-loop-i c = omega (arith, c.requires.0.cell.within.nodes, c.loop-i-test.true)
-
-pub offset_bounds-marks-i : goal.offset_bounds-marks-i
-offset_bounds-marks-i c = omega (arith, c.requires.0.cell.within.nodes, c.loop-i-test.true)
-
-pub bounds-marks-i : goal.bounds-marks-i
-bounds-marks-i c = omega (arith, c.requires.0.cell.within.nodes, c.loop-i-test.true, c.requires.2.long)
-
-pub overflow_add-i-in-loop-i-2 : goal.overflow_add-i-in-loop-i-2
-overflow_add-i-in-loop-i-2 c = omega (arith, c.requires.0.cell.within.nodes, c.loop-i-test.true)
-
-pub offset_bounds-pending-i : goal.offset_bounds-pending-i
-offset_bounds-pending-i c = omega (arith, c.requires.0.cell.within.nodes, c.loop-i-test.true)
-
-pub bounds-pending-i : goal.bounds-pending-i
-bounds-pending-i c = omega (arith, c.requires.0.cell.within.nodes, c.loop-i-test.true, c.requires.2.long)
 
 pub by_mark-p-requires : goal.by_mark-p-requires
 by_mark-p-requires c =
     let l = c.loop-i in (c.requires.0, record { least = omega arith; most = omega (arith, c.loop-i-test.true) }, storing_open l.invariant.0, omega (arith, c.requires.2.within (l.i + 2) (omega (arith, c.requires.0.cell.within.nodes, c.loop-i-test.true)), storing_longer l.invariant.0), leasts_storing l.invariant.0 (c.requires.2.within (l.i + 2) (omega (arith, c.requires.0.cell.within.nodes, c.loop-i-test.true))) (c.requires.3 (l.i + 2) (omega (arith, c.requires.0.cell.within.nodes, c.loop-i-test.true))))
 
-pub shape_of-letter-then-stopped : goal.shape_of-letter-then-stopped
-shape_of-letter-then-stopped c = omega (arith, c.loop-i.invariant.0.letter_long, c.by_mark-p.auto.letter)
-
-pub shape_of-low-then-stopped : goal.shape_of-low-then-stopped
-shape_of-low-then-stopped c = omega (arith, c.loop-i.invariant.0.low_long, c.by_mark-p.auto.low)
-
-pub shape_of-high-then-stopped : goal.shape_of-high-then-stopped
-shape_of-high-then-stopped c = omega (arith, c.loop-i.invariant.0.high_long, c.by_mark-p.auto.high)
-
-pub shape_of-index-then-stopped : goal.shape_of-index-then-stopped
-shape_of-index-then-stopped c = omega (arith, c.loop-i.invariant.0.index_long, c.by_mark-p.auto.index)
-
-pub shape_of-memo-then-stopped : goal.shape_of-memo-then-stopped
-shape_of-memo-then-stopped c = omega (arith, c.loop-i.invariant.1, c.by_mark-p.auto.memo)
-
 pub returns-then-stopped : goal.returns-then-stopped
 returns-then-stopped c =
     let l = c.loop-i in storing_stop l.invariant.0 _ c.by_mark-p.ensures (λ p h. mixed_same l.invariant.0 (net_circuit c.args.net.now) c.args.time (held c.args.wletter.now c.args.wlow.now c.args.whigh.now c.args.wused) c.args.roots c.args.marks c.args.pending (c.requires.2.within (l.i + 2) (omega (arith, c.requires.0.cell.within.nodes, c.loop-i-test.true))) p) (sym c.stopped.ensures ∙ c.if-stopped.true) (omega (arith, nodes_length c.args.net.now, c.loop-i-test.true)) _ _
 
-pub offset_bounds-out-i : goal.offset_bounds-out-i
-offset_bounds-out-i c = omega (arith, c.requires.0.cell.within.nodes, c.loop-i-test.true)
-
-pub bounds-out-i : goal.bounds-out-i
-bounds-out-i c = omega (arith, c.requires.0.cell.within.nodes, c.loop-i-test.true)
-
-pub overflow_add-i-in-loop-i-3 : goal.overflow_add-i-in-loop-i-3
-overflow_add-i-in-loop-i-3 c = omega (arith, c.requires.0.cell.within.nodes, c.loop-i-test.true)
-
-pub loop-i-smaller : goal.loop-i-smaller
-loop-i-smaller c = omega (arith, c.loop-i-test.true)
-
 pub loop-i-preserved : goal.loop-i-preserved
 loop-i-preserved c =
     let l = c.loop-i in (storing_next l.invariant.0 _ c.by_mark-p.ensures (λ p h. mixed_same l.invariant.0 (net_circuit c.args.net.now) c.args.time (held c.args.wletter.now c.args.wlow.now c.args.whigh.now c.args.wused) c.args.roots c.args.marks c.args.pending (c.requires.2.within (l.i + 2) (omega (arith, c.requires.0.cell.within.nodes, c.loop-i-test.true))) p) (sym c.stopped.ensures ∙ c.if-stopped.false) (omega (arith, nodes_length c.args.net.now, c.loop-i-test.true)) (omega (arith, nodes_length c.args.net.now, c.requires.0.cell.within.nodes)) c.by_mark-p.auto.letter c.by_mark-p.auto.low c.by_mark-p.auto.high c.by_mark-p.auto.index, omega (arith, l.invariant.1, c.by_mark-p.auto.memo))
-
-pub shape_of-letter : goal.shape_of-letter
-shape_of-letter c = omega (arith, c.loop-i.invariant.0.letter_long)
-
-pub shape_of-low : goal.shape_of-low
-shape_of-low c = omega (arith, c.loop-i.invariant.0.low_long)
-
-pub shape_of-high : goal.shape_of-high
-shape_of-high c = omega (arith, c.loop-i.invariant.0.high_long)
-
-pub shape_of-index : goal.shape_of-index
-shape_of-index c = omega (arith, c.loop-i.invariant.0.index_long)
-
-pub shape_of-memo : goal.shape_of-memo
-shape_of-memo c = omega (arith, c.loop-i.invariant.1)
 
 pub returns : goal.returns
 returns c = storing_done c.loop-i.invariant.0 (omega (arith, nodes_length c.args.net.now, c.loop-i-test.false))

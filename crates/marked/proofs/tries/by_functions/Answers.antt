@@ -1,5 +1,4 @@
 -- `by_functions` meets its contract: what the first entries leave is as it was. Assumes nothing.
-use native.Mathlib.Omega.{arith}
 use Rattle.net.specs.Net.{at, net_circuit}
 use Rattle.marked.proofs.Entries.{legal_again}
 use Rattle.marked.proofs.Trying.{again_open, again_entries, again_leasts, again_stored, again_same, or_first}
@@ -9,30 +8,6 @@ pub try_all-requires : goal.try_all-requires
 try_all-requires c =
     let same = (c.try_first-first.ensures.1 (or_first c.try_first-first.result.done _ c.if-first-wletter.false)) in let e = again_entries same (record { first = c.requires.value_entries.0; second = c.requires.value_entries.1; third = c.requires.value_entries.2 }) in
     record { laid = (c.requires.laid.0, again_open same c.requires.laid.1, legal_again c.try_first-first.new.wletter c.try_first-first.new.wlow c.try_first-first.new.whigh c.requires.laid.2 c.try_first-first.auto.wletter c.try_first-first.auto.wlow c.try_first-first.auto.whigh); value_entries = (e.first, e.second, e.third, c.requires.value_entries.3, again_leasts (at c.args.net.now 3) c.args.used same c.args.pending c.args.least.now c.requires.value_entries.4) }
-
-pub shape_of-letter : goal.shape_of-letter
-shape_of-letter c = omega (arith, c.try_all.auto.letter, c.try_first-first.auto.letter)
-
-pub shape_of-low : goal.shape_of-low
-shape_of-low c = omega (arith, c.try_all.auto.low, c.try_first-first.auto.low)
-
-pub shape_of-high : goal.shape_of-high
-shape_of-high c = omega (arith, c.try_all.auto.high, c.try_first-first.auto.high)
-
-pub shape_of-index : goal.shape_of-index
-shape_of-index c = omega (arith, c.try_all.auto.index, c.try_first-first.auto.index)
-
-pub shape_of-wletter : goal.shape_of-wletter
-shape_of-wletter c = omega (arith, c.try_all.auto.wletter, c.try_first-first.auto.wletter)
-
-pub shape_of-wlow : goal.shape_of-wlow
-shape_of-wlow c = omega (arith, c.try_all.auto.wlow, c.try_first-first.auto.wlow)
-
-pub shape_of-whigh : goal.shape_of-whigh
-shape_of-whigh c = omega (arith, c.try_all.auto.whigh, c.try_first-first.auto.whigh)
-
-pub shape_of-windex : goal.shape_of-windex
-shape_of-windex c = omega (arith, c.try_first-first.auto.windex)
 
 pub returns : goal.returns
 returns c =

@@ -2,19 +2,12 @@
 use mathlib.Core.Path.{refl, sym, ◌∙◌}
 use mathlib.Core.Bool.{true≢false}
 use Prim.Native.Nat.{◌*◌}
-use native.Mathlib.Omega.{arith}
 use lib.ListN.{length}
 use lib.Seq.{length-take-le}
 use Rattle.attempt.proofs.First.{room_sized}
 use Rattle.marked.proofs.Preparing.{before_used, after_used, pending_used, after_bits, step_roots}
 use Rattle.marked.proofs.Mixing.{masked_entries, mixed_stored}
 use Rattle.marked.proofs.tries.try_in.Goals as goal
-
-pub overflow_mul-places : goal.overflow_mul-places
-overflow_mul-places c = omega (arith, c.requires.laid.2.most)
-
-pub slice_bounds-prepare-end : goal.slice_bounds-prepare-end
-slice_bounds-prepare-end c = omega (arith, c.requires.laid.2.room)
 
 pub slice_bounds-prepare-end-2 : goal.slice_bounds-prepare-end-2
 slice_bounds-prepare-end-2 c = sym (length-take-le (2 * length c.args.wletter.now) c.args.windex.now c.requires.laid.2.room)

@@ -1,5 +1,4 @@
--- `fields::put_entries` meets its contract. The loop's invariant: the first i records stand in their places. Assumes nothing.
-use Prim.Native.Nat.{◌-◌, ◌≤◌}
+-- `places::put_entries` meets its contract. The loop's invariant: the first i records stand in their places. Assumes nothing.
 use mathlib.Core.Path.{◌≡◌}
 use lib.ListN.{length}
 use Rattle.format.specs.Circuit.{no_entry}
@@ -8,7 +7,4 @@ use Rattle.net.specs.Written.{Put}
 use Rattle.net.proofs.places.put_entries.Given as goal
 
 abbrev pub invariant-loop-i : goal.invariant-loop-i
-invariant-loop-i l = (l.i ≤ l.n) × (length l.net ≡ net_length) × Put 400 592 net_entry no_entry l.schedule l.i l.initial.net l.net
-
-abbrev pub decreases-loop-i : goal.decreases-loop-i
-decreases-loop-i l = l.n - l.i
+invariant-loop-i l = (length l.net ≡ net_length) × Put 400 592 net_entry no_entry l.schedule l.i l.initial.net l.net

@@ -1,4 +1,4 @@
--- `fields::put_fields` meets its contract. Assumes nothing.
+-- `places::put_fields` meets its contract. Assumes nothing.
 use mathlib.Core.Path.{◌∙◌}
 use Rattle.net.proofs.Laying.{legal_fits, fields_laid}
 use Rattle.net.proofs.places.put_fields.Goals as goal

@@ -3,8 +3,5 @@ use mathlib.Core.Path.{refl}
 use native.Mathlib.Omega.{arith}
 use Rattle.net.proofs.quantities.entry_time.Goals as goal
 
-pub overflow_cast-result : goal.overflow_cast-result
-overflow_cast-result c = omega (arith, (c.requires.0.within.entry c.args.i c.requires.1).time_most, c.requires.0.within.horizon)
-
 pub returns : goal.returns
 returns c = (refl, omega (arith, (c.requires.0.within.entry c.args.i c.requires.1).time_most, c.requires.0.within.horizon))

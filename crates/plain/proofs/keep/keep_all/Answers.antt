@@ -1,7 +1,7 @@
 use Prim.Native.Nat.{◌<◌}
 use Rattle.format.specs.declared.Transistor.{Transistor}
-use mathlib.Core.Path.{◌≡◌, sym, ◌∙◌, subst}
-use lib.ListN.{length, get_or}
+use mathlib.Core.Path.{sym, subst}
+use lib.ListN.{length}
 use Rattle.net.specs.Net.{net_circuit}
 use Rattle.net.proofs.Laying.{nodes_length, transistors_length, transistor_at_lem}
 use Rattle.plain.specs.Leaves.{OneKept}
@@ -14,12 +14,7 @@ pub loop-i-init : goal.loop-i-init
 loop-i-init c =
     let net = c.args.net.now in
     let few = c.requires.laid.within.nodes in
-    (omega arith, c.requires.laid.within.transistors, c.requires.column.1, c.requires.column.2, kept_none (net_circuit net) c.args.values.now c.args.leaf.now c.args.labels.now (omega (arith, nodes_length net)) c.requires.column.3)
-
-pub keep_one-requires : goal.keep_one-requires
-keep_one-requires c =
-    let l = c.loop-i in
-    record { laid = c.requires.laid; values_len = (c.requires.column.0.long, l.invariant.2, l.invariant.3, c.loop-i-test.true) }
+    kept_none (net_circuit net) c.args.values.now c.args.leaf.now c.args.labels.now (omega (arith, nodes_length net)) c.requires.column.3
 
 pub loop-i-preserved : goal.loop-i-preserved
 loop-i-preserved c =
@@ -31,22 +26,5 @@ loop-i-preserved c =
     let in_list : l.i < length (net_circuit net).transistors = omega (arith, transistors_length net) in
     let next = c.keep_one.new.leaf in
     let after = c.keep_one.new.labels in
-    let is = subst (λ (t : Transistor). OneKept (net_circuit net) values l.i t l.leaf next l.labels after) (sym (transistor_at_lem net l.i below)) one.ensures in (
-      omega arith,
-      l.invariant.1,
-      one.auto.leaf ∙ l.invariant.2,
-      one.auto.labels ∙ l.invariant.3,
-      kept_more (net_circuit net) values l.i c.args.leaf.now l.leaf next l.labels after c.requires.column.0 (omega (arith, l.invariant.2, l.invariant.1)) in_list (wired net c.requires.laid l.i in_list) l.invariant.4 is,
-    )
-
-pub shape_of-leaf : goal.shape_of-leaf
-shape_of-leaf c = c.loop-i.invariant.2 ∙ sym c.requires.column.1
-
-pub shape_of-labels : goal.shape_of-labels
-shape_of-labels c = c.loop-i.invariant.3 ∙ sym c.requires.column.2
-
-pub returns : goal.returns
-returns c =
-    let l = c.loop-i in
-    let done : l.i ≡ get_or c.args.net.now 1 0 = omega arith in
-    rw done at l.invariant.4
+    let is = subst (λ (t : Transistor). OneKept (net_circuit net) values l.i t l.leaf next l.labels after) (sym (transistor_at_lem net l.i below)) one.ensures in
+    kept_more (net_circuit net) values l.i c.args.leaf.now l.leaf next l.labels after c.requires.column.0 (omega (arith, l.auto.leaf, c.requires.column.1, c.requires.laid.within.transistors)) in_list (wired net c.requires.laid l.i in_list) l.invariant is

@@ -3,7 +3,6 @@ use mathlib.Core.Option.{Option, some}
 use Prim.Native.Nat.{ℕ, ◌+◌, ◌-◌, ◌<◌, ◌≤◌}
 use native.Mathlib.Omega.{arith}
 use lib.ListN.{length}
-use borrow.Author.Rules.{rules}
 use Rattle.units.specs.Rules.{ceiling}
 use Rattle.units.specs.Range.{AtMost}
 use Rattle.format.specs.Circuit.{node_record}
@@ -76,8 +75,8 @@ node_load-returns-then-allowance-eq0 t c =
     ∙ sym (load_own (net_circuit net) (leaf_state (net_circuit net) 0 leaf) (leaf_channels (net_circuit net) leaf) c.args.sharing c.args.new (from_of c.args.from) n inner)
     ∙ ap (λ (a : ℕ). leaf_load net leaf a c.args.sharing c.args.new (from_of c.args.from) n) (sym c.if-allowance-eq0.true)
 
-pub node_load-degree_of-degree-requires : goal.node_load-degree_of-degree-requires
-node_load-degree_of-degree-requires t c = record { net = c.requires.ready.cell; n_bound = c.requires.n_bound }
+pub node_load-degree_of-k-end-requires : goal.node_load-degree_of-k-end-requires
+node_load-degree_of-k-end-requires t c = record { net = c.requires.ready.cell; n_bound = c.requires.n_bound }
 
 pub node_load-loop-k-init : goal.node_load-loop-k-init
 node_load-loop-k-init t c =
@@ -91,7 +90,7 @@ node_load-loop-k-init t c =
 
 pub node_load-arm_at-i-requires : goal.node_load-arm_at-i-requires
 node_load-arm_at-i-requires t c =
-    let node-load-left : c.loop-k.k < length (net_arms c.args.net.now c.args.n) = (omega (arith, c.loop-k-test.true, c.degree_of-degree.ensures)) in
+    let node-load-left : c.loop-k.k < length (net_arms c.args.net.now c.args.n) = (omega (arith, c.loop-k-test.true, c.degree_of-k-end.ensures)) in
     record { net = c.requires.ready.cell; n_bound = c.requires.n_bound; k_in_bounds = node-load-left }
 
 pub node_load-is_arm-requires : goal.node_load-is_arm-requires
@@ -100,12 +99,12 @@ node_load-is_arm-requires t c = record { leaf_len = c.requires.ready.numbers.lon
 pub node_load-overflow_sub-allowance : goal.node_load-overflow_sub-allowance
 node_load-overflow_sub-allowance t c = omega (arith, c.if-allowance-eq0.false)
 
-pub node_load-load_arm-one-requires : goal.node_load-load_arm-one-requires
-node_load-load_arm-one-requires t c = (omega (arith, c.decreases, c.if-allowance-eq0.false), (c.requires.ready, (c.arm_at-i.ensures.1, omega (arith, c.requires.allowance_le_most_nodes))))
+pub node_load-load_arm-requires : goal.node_load-load_arm-requires
+node_load-load_arm-requires t c = (omega (arith, c.decreases, c.if-allowance-eq0.false), (c.requires.ready, (c.arm_at-i.ensures.1, omega (arith, c.requires.allowance_le_most_nodes))))
 
 pub node_load-join_loads-load-requires : goal.node_load-join_loads-load-requires
 node_load-join_loads-load-requires t c =
-    let node-load-left : c.loop-k.k < length (net_arms c.args.net.now c.args.n) = (omega (arith, c.loop-k-test.true, c.degree_of-degree.ensures)) in
+    let node-load-left : c.loop-k.k < length (net_arms c.args.net.now c.args.n) = (omega (arith, c.loop-k-test.true, c.degree_of-k-end.ensures)) in
     let node-load-goes : let loop = c.loop-k in
     let one = arm_load c.args.net.now c.args.leaf.now (c.args.allowance - 1) c.args.sharing c.args.new c.args.n c.arm_at-i.result in
     JoinableLoads (load_of loop.load) one × LoadTurn c.args.net.now c.args.leaf.now c.args.allowance c.args.sharing c.args.new c.args.from c.args.n (loop.k + 1) (join_loads (load_of loop.load) one) = (let loop = c.loop-k in
@@ -117,24 +116,18 @@ node_load-join_loads-load-requires t c =
           loop.k c.arm_at-i.result c.is_arm.result (node-load-left) c.arm_at-i.ensures.0 c.arm_at-i.ensures.1
           c.is_arm.ensures c.if-is_arm.true c.args.sharing c.args.new (load_of loop.load) loop.invariant,
     )) in
-    subst (JoinableLoads (load_of c.loop-k.load)) (sym c.load_arm-one.ensures) (node-load-goes).0
-
-pub node_load-overflow_add-k : goal.node_load-overflow_add-k
-node_load-overflow_add-k t c = omega (arith, c.loop-k-test.true, c.degree_of-degree.type_inv)
-
-pub node_load-loop-k-smaller : goal.node_load-loop-k-smaller
-node_load-loop-k-smaller t c = omega (arith, c.loop-k-test.true)
+    subst (JoinableLoads (load_of c.loop-k.load)) (sym c.load_arm.ensures) (node-load-goes).0
 
 pub node_load-loop-k-preserved : goal.node_load-loop-k-preserved
 node_load-loop-k-preserved t c =
     let loop = c.loop-k in
-    let left : loop.k < length (net_arms c.args.net.now c.args.n) = omega (arith, c.loop-k-test.true, c.degree_of-degree.ensures) in
+    let left : loop.k < length (net_arms c.args.net.now c.args.n) = omega (arith, c.loop-k-test.true, c.degree_of-k-end.ensures) in
     let some_left : 1 ≤ c.args.allowance = omega (arith, c.if-allowance-eq0.false) in
     let Goal : Load → Type 0 = λ v. LoadTurn c.args.net.now c.args.leaf.now c.args.allowance c.args.sharing c.args.new c.args.from c.args.n (loop.k + 1) (load_of v) in
     elim c.if-is_arm.branch [
       | node_load-then-is_arm w ↦ subst Goal (sym w.load-is)
           (subst (LoadTurn c.args.net.now c.args.leaf.now c.args.allowance c.args.sharing c.args.new c.args.from c.args.n (loop.k + 1))
-          (sym (w.join_loads-load.ensures ∙ ap (join_loads (load_of loop.load)) w.load_arm-one.ensures))
+          (sym (w.join_loads-load.ensures ∙ ap (join_loads (load_of loop.load)) w.load_arm.ensures))
           (load_turns c.args.net.now c.args.leaf.now c.requires.ready c.args.allowance c.args.from c.args.n some_left c.requires.n_bound
           loop.k c.arm_at-i.result c.is_arm.result left c.arm_at-i.ensures.0 c.arm_at-i.ensures.1
           c.is_arm.ensures w.if-is_arm.true c.args.sharing c.args.new (load_of loop.load) loop.invariant))
@@ -142,4 +135,4 @@ node_load-loop-k-preserved t c =
     ]
 
 pub node_load-returns : goal.node_load-returns
-node_load-returns t c = turn_ends c.loop-k.invariant (omega (arith, c.loop-k-test.false, c.degree_of-degree.ensures))
+node_load-returns t c = turn_ends c.loop-k.invariant (omega (arith, c.loop-k-test.false, c.degree_of-k-end.ensures))

@@ -1,5 +1,5 @@
 -- `load_arm` and `node_load` call each other; the allowance falls. The loop's invariant: what it has, and what the arms not yet passed make of it, is the node's delay walk.
-use Prim.Native.Nat.{◌+◌, ◌*◌, ◌-◌}
+use Prim.Native.Nat.{◌+◌, ◌*◌}
 use Rattle.plain.specs.Leaf.{load_of}
 use Rattle.plain.proofs.Walks.{LoadTurn}
 use Rattle.plain.proofs.loads.+load_arm_node_load.Given as goal
@@ -12,6 +12,3 @@ decreases-node_load l = 2 * l.allowance
 
 abbrev pub invariant-node_load-loop-k : goal.invariant-node_load-loop-k
 invariant-node_load-loop-k l = LoadTurn l.net l.leaf l.allowance l.sharing l.new l.from l.n l.k (load_of l.load)
-
-abbrev pub decreases-node_load-loop-k : goal.decreases-node_load-loop-k
-decreases-node_load-loop-k l = l.degree - l.k

@@ -1,5 +1,4 @@
 -- `changes_after`. The loop's invariant: the nodes before n have their next changes, in every state that the columns show.
-use Prim.Native.Nat.{◌-◌, ◌≤◌}
 use Rattle.diagram.specs.Table.{never}
 use Rattle.rules.specs.State.{State}
 use Rattle.net.specs.Net.{net_circuit}
@@ -9,7 +8,4 @@ use Rattle.plain.proofs.step.changes_after.Given as goal
 
 abbrev pub invariant-loop-n : goal.invariant-loop-n
 invariant-loop-n l =
-    (2 ≤ l.n) × (l.n ≤ l.past) × ((s t : State) → Showing l.net l.time l.before l.after l.pending s t → Filled never never (change_between (net_circuit l.net) l.time l.all s t) l.n l.changes)
-
-abbrev pub decreases-loop-n : goal.decreases-loop-n
-decreases-loop-n l = l.past - l.n
+    (s t : State) → Showing l.net l.time l.before l.after l.pending s t → Filled never never (change_between (net_circuit l.net) l.time l.all s t) l.n l.changes

@@ -1,5 +1,5 @@
 -- `arm` and `node_sum` call each other; the allowance falls. The loop's invariant: what it has, and what the arms not yet passed make of it, is the node's sum.
-use Prim.Native.Nat.{◌+◌, ◌*◌, ◌-◌}
+use Prim.Native.Nat.{◌+◌, ◌*◌}
 use Rattle.plain.specs.Leaf.{sum_of}
 use Rattle.plain.proofs.Walks.{SumTurn}
 use Rattle.plain.proofs.sums.+arm_node_sum.Given as goal
@@ -12,6 +12,3 @@ decreases-node_sum l = 2 * l.allowance
 
 abbrev pub invariant-node_sum-loop-k : goal.invariant-node_sum-loop-k
 invariant-node_sum-loop-k l = SumTurn l.net l.leaf l.allowance l.from l.n l.k (sum_of l.sum)
-
-abbrev pub decreases-node_sum-loop-k : goal.decreases-node_sum-loop-k
-decreases-node_sum-loop-k l = l.degree - l.k

@@ -16,4 +16,4 @@ soonest_entry-scheduled-requires c = c.requires
 
 pub returns : goal.returns
 unfolding pattern_time
-returns c = c.earlier.ensures ∙ ap₂ min c.soonest_change-pending.ensures c.soonest_entry-scheduled.ensures
+returns c = c.min.ensures ∙ ap₂ min c.soonest_change-pending.ensures c.soonest_entry-scheduled.ensures

@@ -10,16 +10,7 @@ use Rattle.plain.proofs.time.soonest_change.Goals as goal
 pub loop-n-init : goal.loop-n-init
 loop-n-init c =
     let count : at c.args.net.now 0 ≡ 2 + at c.args.net.now 0 - 2 = omega arith in
-    (omega arith, omega arith, sym (soonest_past c.args.present (of_nodes (net_circuit c.args.net.now) c.args.changes.now) (2 + at c.args.net.now 0 - 2) (changes_length c.args.net.now c.requires.0 c.args.changes.now c.requires.1 ∙ count)))
-
-pub overflow_sub-n : goal.overflow_sub-n
-overflow_sub-n c = omega arith
-
-pub bounds-changes-n : goal.bounds-changes-n
-bounds-changes-n c = omega (arith, c.requires.0.within.nodes, c.requires.1)
-
-pub loop-n-smaller : goal.loop-n-smaller
-loop-n-smaller c = omega arith
+    (omega arith, sym (soonest_past c.args.present (of_nodes (net_circuit c.args.net.now) c.args.changes.now) (2 + at c.args.net.now 0 - 2) (changes_length c.args.net.now c.requires.0 c.args.changes.now c.requires.1 ∙ count)))
 
 pub loop-n-preserved : goal.loop-n-preserved
 loop-n-preserved c =
@@ -29,13 +20,12 @@ loop-n-preserved c =
     let long = changes_length net c.requires.0 changes c.requires.1 in
     let some : 2 < l.n = c.loop-n-test.true in (
       omega arith,
-      omega arith,
-      soonest_more c.args.present (of_nodes (net_circuit net) changes) (l.n - 1 - 2) (l.n - 2) (get_or changes (l.n - 1) 0) l.first c.sooner-first.result (omega arith) (omega (arith, long))
-          (changes_at net c.requires.0 changes c.requires.1 (l.n - 1) (omega arith) (omega arith)) l.invariant.2 c.sooner-first.ensures,
+      soonest_more c.args.present (of_nodes (net_circuit net) changes) (l.n - 1 - 2) (l.n - 2) (get_or changes (l.n - 1) 0) l.first c.sooner-first.result (omega arith) (omega (arith, long, l.auto.n))
+          (changes_at net c.requires.0 changes c.requires.1 (l.n - 1) (omega arith) (omega (arith, l.auto.n))) l.invariant.1 c.sooner-first.ensures,
     )
 
 pub returns : goal.returns
 returns c =
     let l = c.loop-n in
-    let done : l.n ≡ 2 = omega arith in
-    rw done at l.invariant.2
+    let done : l.n ≡ 2 = omega (arith, l.invariant.0, c.loop-n-test.false) in
+    rw done at l.invariant.1

@@ -8,36 +8,13 @@ use Rattle.plain.proofs.time.soonest_entry.Invariants.{times}
 use Rattle.plain.proofs.time.soonest_entry.Goals as goal
 
 pub loop-i-init : goal.loop-i-init
-loop-i-init c = (omega arith, sym (soonest_past c.args.present (times c.args.net.now) (at c.args.net.now 2) (times_length c.args.net.now)))
-
-pub overflow_sub-i : goal.overflow_sub-i
-overflow_sub-i c = omega arith
-
-pub entry_time-at-requires : goal.entry_time-at-requires
-entry_time-at-requires c =
-    let l = c.loop-i in
-    let within : l.i - 1 < at c.args.net.now 2 = omega (arith, c.loop-i-test.true) in
-    (c.requires, within)
-
-pub overflow_cast-at : goal.overflow_cast-at
-overflow_cast-at c = omega (arith, c.entry_time-at.ensures.1)
-
-pub loop-i-smaller : goal.loop-i-smaller
-loop-i-smaller c = omega arith
+loop-i-init c = sym (soonest_past c.args.present (times c.args.net.now) (at c.args.net.now 2) (times_length c.args.net.now))
 
 pub loop-i-preserved : goal.loop-i-preserved
 loop-i-preserved c =
     let l = c.loop-i in
     let net = c.args.net.now in
     let some : 0 < l.i = c.loop-i-test.true in
-    let read : c.entry_time-at.result.0 ≡ at net (time_place + (l.i - 1)) = ap (λ (t : Picoseconds). t.0) c.entry_time-at.ensures.0 in (
-      omega arith,
-      soonest_more c.args.present (times net) (l.i - 1) l.i c.entry_time-at.result.0 l.first c.sooner-first.result (omega arith) (omega (arith, times_length net))
-          (read ∙ times_at net (l.i - 1) (omega arith)) l.invariant.1 c.sooner-first.ensures,
-    )
-
-pub returns : goal.returns
-returns c =
-    let l = c.loop-i in
-    let done : l.i ≡ 0 = omega arith in
-    rw done at l.invariant.1
+    let read : c.entry_time-at.result.0 ≡ at net (time_place + (l.i - 1)) = ap (λ (t : Picoseconds). t.0) c.entry_time-at.ensures.0 in
+    soonest_more c.args.present (times net) (l.i - 1) l.i c.entry_time-at.result.0 l.first c.sooner-first.result (omega arith) (omega (arith, times_length net, l.auto.i))
+    (read ∙ times_at net (l.i - 1) (omega (arith, l.auto.i))) l.invariant c.sooner-first.ensures

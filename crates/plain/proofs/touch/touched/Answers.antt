@@ -1,25 +1,13 @@
 use mathlib.Core.Bool.{true, false}
 use mathlib.Core.Path.{ap}
-use mathlib.Core.Path.{refl, sym, ◌∙◌, ap₂}
+use mathlib.Core.Path.{sym, ◌∙◌, ap₂}
 use mathlib.Core.Bool.{◌&&◌}
-use borrow.Author.Tests.{not-true, not-false}
+use borrow.Author.Tests.{not-false}
 use Rattle.net.specs.Net.{net_circuit}
 use Rattle.net.proofs.Laying.{transistors_length, transistor_at_lem}
-use Rattle.plain.proofs.Pieces.{touches, some_hit, some_next, some_ends, inner_reconsidered, other_reconsidered}
+use Rattle.plain.proofs.Pieces.{touches, some_hit, some_next, some_ends, inner_reconsidered}
 use native.Mathlib.Omega.{arith}
 use Rattle.plain.proofs.touch.touched.Goals as goal
-
-pub returns-then-not-is_inner : goal.returns-then-not-is_inner
-returns-then-not-is_inner c = λ x y sx sy. other_reconsidered c.args.net.now c.args.labels.now c.args.before.now c.args.after.now c.args.n c.requires.laid.0 c.requires.laid.1 c.requires.column.0 c.requires.column.1 (sym c.is_inner.ensures ∙ not-true _ c.if-not-is_inner.true-raw) x y
-
-pub loop-i-init : goal.loop-i-init
-loop-i-init c = (omega arith, refl)
-
-pub of_piece-requires : goal.of_piece-requires
-of_piece-requires c = record { laid = (c.requires.laid.0, c.requires.laid.1.long); n_bound = (c.requires.column.2, c.loop-i-test.true) }
-
-pub disturbed-requires : goal.disturbed-requires
-disturbed-requires c = record { laid = c.requires.laid.0; before_len = (c.requires.column.0.long, c.requires.column.1.long, c.loop-i-test.true) }
 
 pub returns-then-of_piece-disturbed : goal.returns-then-of_piece-disturbed
 returns-then-of_piece-disturbed c =
@@ -29,7 +17,7 @@ returns-then-of_piece-disturbed c =
     let test = touches (net_circuit net) c.args.labels.now c.args.before.now c.args.after.now c.args.n in
     let below = c.loop-i-test.true in
     let hit = ap test (transistor_at_lem net l.i below) ∙ sym (ap₂ ◌&&◌ c.of_piece.ensures c.disturbed.ensures) ∙ c.if-of_piece-disturbed.true in
-    inner_reconsidered net c.args.labels.now c.args.before.now c.args.after.now c.args.n c.requires.laid.0 c.requires.laid.1 c.requires.column.0 c.requires.column.1 true c.requires.column.2 inner (some_hit test (net_circuit net).transistors l.i (omega (arith, transistors_length net)) l.invariant.1 hit)
+    inner_reconsidered net c.args.labels.now c.args.before.now c.args.after.now c.args.n c.requires.laid.0 c.requires.laid.1 c.requires.column.0 c.requires.column.1 true c.requires.column.2 inner (some_hit test (net_circuit net).transistors l.i (omega (arith, transistors_length net)) l.invariant hit)
 
 pub loop-i-preserved : goal.loop-i-preserved
 loop-i-preserved c =
@@ -38,7 +26,7 @@ loop-i-preserved c =
     let test = touches (net_circuit net) c.args.labels.now c.args.before.now c.args.after.now c.args.n in
     let below = c.loop-i-test.true in
     let miss = ap test (transistor_at_lem net l.i below) ∙ sym (ap₂ ◌&&◌ c.of_piece.ensures c.disturbed.ensures) ∙ c.if-of_piece-disturbed.false in
-    (omega arith, some_next test (net_circuit net).transistors l.i (omega (arith, transistors_length net)) l.invariant.1 miss)
+    some_next test (net_circuit net).transistors l.i (omega (arith, transistors_length net)) l.invariant miss
 
 pub returns : goal.returns
 returns c =
@@ -46,4 +34,4 @@ returns c =
     let net = c.args.net.now in
     let l = c.loop-i in
     let test = touches (net_circuit net) c.args.labels.now c.args.before.now c.args.after.now c.args.n in
-    inner_reconsidered net c.args.labels.now c.args.before.now c.args.after.now c.args.n c.requires.laid.0 c.requires.laid.1 c.requires.column.0 c.requires.column.1 false c.requires.column.2 inner (some_ends test (net_circuit net).transistors l.i (omega (arith, transistors_length net)) l.invariant.1)
+    inner_reconsidered net c.args.labels.now c.args.before.now c.args.after.now c.args.n c.requires.laid.0 c.requires.laid.1 c.requires.column.0 c.requires.column.1 false c.requires.column.2 inner (some_ends test (net_circuit net).transistors l.i (omega (arith, transistors_length net)) l.invariant)

@@ -1,11 +1,7 @@
 -- `active` meets its contract: node after node. Assumes nothing.
-use Prim.Native.Nat.{◌-◌}
 use Rattle.net.specs.Net.{net_circuit}
 use Rattle.prepare.proofs.Seeding.{Activating}
 use Rattle.prepare.proofs.seeds.active.Given as goal
 
 abbrev pub invariant-loop-n : goal.invariant-loop-n
-invariant-loop-n l = Activating (net_circuit l.net) l.count l.seeds l.n l.out
-
-abbrev pub decreases-loop-n : goal.decreases-loop-n
-decreases-loop-n l = l.count - l.n
+invariant-loop-n l = Activating (net_circuit l.net) l.seeds l.n l.out

@@ -20,5 +20,5 @@ all_among-requires-then-all_among t c =
 pub returns-then-all_among : goal.returns-then-all_among
 returns-then-all_among t c = among_high c.requires.0 c.args.e c.requires.1 c.if-letter-i.false _ _ _ c.all_among.ensures c.if-all_among.true c.all_among-then-all_among.ensures
 
-pub returns : goal.returns
-returns t c = among_low c.requires.0 c.args.e c.requires.1 c.if-letter-i.false _ _ _ c.all_among.ensures c.if-all_among.false
+pub returns-else-all_among : goal.returns-else-all_among
+returns-else-all_among t c = c.if-all_among.false ∙ among_low c.requires.0 c.args.e c.requires.1 c.if-letter-i.false _ _ _ c.all_among.ensures c.if-all_among.false

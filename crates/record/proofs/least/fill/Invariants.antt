@@ -1,5 +1,4 @@
 -- `least::fill` meets its contract. The loop's invariant: the column is right before e. Assumes nothing.
-use Prim.Native.Nat.{◌≤◌, ◌-◌}
 use mathlib.Core.Path.{◌≡◌}
 use lib.ListN.{length}
 use Rattle.diagram.specs.Held.{held}
@@ -8,7 +7,4 @@ use Rattle.record.proofs.least.fill.Given as goal
 
 abbrev pub invariant-loop-e : goal.invariant-loop-e
 invariant-loop-e l =
-    (l.e ≤ l.used) × (length l.least ≡ length l.initial.least) × Leasts l.k (held l.letter l.low l.high l.used) l.e l.least
-
-abbrev pub decreases-loop-e : goal.decreases-loop-e
-decreases-loop-e l = l.used - l.e
+    (length l.least ≡ length l.initial.least) × Leasts l.k (held l.letter l.low l.high l.used) l.e l.least

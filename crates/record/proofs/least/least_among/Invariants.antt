@@ -1,11 +1,7 @@
 -- `least::least_among` meets its contract. The loop's invariant: the least number so far. Assumes nothing.
-use Prim.Native.Nat.{◌≤◌, ◌-◌}
 use mathlib.Core.Path.{◌≡◌}
 use Rattle.record.specs.Numbers.{least_listed}
 use Rattle.record.proofs.least.least_among.Given as goal
 
-abbrev pub invariant-loop-i : goal.invariant-loop-i
-invariant-loop-i l = (l.i ≤ l.count) × (l.all ≡ least_listed l.least l.entries l.i)
-
-abbrev pub decreases-loop-i : goal.decreases-loop-i
-decreases-loop-i l = l.count - l.i
+abbrev pub invariant-loop-e : goal.invariant-loop-e
+invariant-loop-e l = l.all ≡ least_listed l.least l.fn.entries l.e-index

@@ -9,20 +9,8 @@ use Rattle.record.proofs.least.least_at.Goals as goal
 pub returns-then-letter-i : goal.returns-then-letter-i
 returns-then-letter-i c = least_leaf c.requires.legible.0 c.args.e c.requires.legible.1 c.if-letter-i.true (omega (arith, c.shared_slice_known-then-letter-i-1.given c.args.e))
 
-pub overflow_cast-a : goal.overflow_cast-a
-overflow_cast-a c = omega (arith, c.shared_slice_known-6-1.given c.args.e)
-
-pub overflow_cast-b : goal.overflow_cast-b
-overflow_cast-b c = omega (arith, c.shared_slice_known-7-1.given c.args.e)
-
-pub offset_bounds-least-a : goal.offset_bounds-least-a
-offset_bounds-least-a c = omega (arith, low_earlier c.requires.legible.0 c.args.e c.requires.legible.1 c.if-letter-i.false, c.requires.leasts.within)
-
 pub bounds-least-a : goal.bounds-least-a
 bounds-least-a c = omega (arith, low_earlier c.requires.legible.0 c.args.e c.requires.legible.1 c.if-letter-i.false, c.requires.leasts.within)
-
-pub offset_bounds-least-b : goal.offset_bounds-least-b
-offset_bounds-least-b c = omega (arith, high_earlier c.requires.legible.0 c.args.e c.requires.legible.1 c.if-letter-i.false, c.requires.leasts.within)
 
 pub bounds-least-b : goal.bounds-least-b
 bounds-least-b c = omega (arith, high_earlier c.requires.legible.0 c.args.e c.requires.legible.1 c.if-letter-i.false, c.requires.leasts.within)

@@ -4,25 +4,13 @@ use Rattle.record.proofs.Loops.{loop_starts, loop_fails, loop_next, loop_ends}
 use Rattle.record.proofs.places.inputs_rest.Goals as goal
 
 pub loop-i-init : goal.loop-i-init
-loop-i-init c = (omega arith, loop_starts _)
-
-pub overflow_add-i : goal.overflow_add-i
-overflow_add-i c = omega arith
-
-pub bounds-net-i : goal.bounds-net-i
-bounds-net-i c = omega arith
-
-pub bounds-changes-i : goal.bounds-changes-i
-bounds-changes-i c = omega arith
+loop-i-init c = loop_starts _
 
 pub returns-then-not-rests : goal.returns-then-not-rests
 returns-then-not-rests c = loop_fails _ _ c.loop-i.i (omega arith) c.rests.ensures (not-true _ c.if-not-rests.true-raw)
 
-pub overflow_add-i-in-loop-i : goal.overflow_add-i-in-loop-i
-overflow_add-i-in-loop-i c = omega arith
-
 pub loop-i-preserved : goal.loop-i-preserved
-loop-i-preserved c = (omega arith, loop_next _ _ c.loop-i.invariant.1 c.rests.ensures (not-false _ c.if-not-rests.false-raw))
+loop-i-preserved c = loop_next _ _ c.loop-i.invariant c.rests.ensures (not-false _ c.if-not-rests.false-raw)
 
 pub returns : goal.returns
-returns c = loop_ends _ _ c.loop-i.i (omega arith) c.loop-i.invariant.1
+returns c = loop_ends _ _ c.loop-i.i (omega arith) c.loop-i.invariant

@@ -6,24 +6,16 @@ use Rattle.record.proofs.LeastBelow.{least_none, least_loop, least_ends}
 use Rattle.record.proofs.places.scheduled_after.Goals as goal
 
 pub loop-i-init : goal.loop-i-init
-loop-i-init c = (omega arith, sym (least_none _))
+loop-i-init c = sym (least_none _)
 
 pub entry_time-requires : goal.entry_time-requires
 entry_time-requires c = (c.requires, c.loop-i-test.true)
 
-pub after_now-requires : goal.after_now-requires
-after_now-requires c = omega (arith, c.entry_time.ensures.1)
-
-pub overflow_add-i : goal.overflow_add-i
-overflow_add-i c = omega arith
-
 pub loop-i-preserved : goal.loop-i-preserved
 loop-i-preserved c =
-    let now = c.args.present in (
-      omega arith,
-      least_loop _ _ c.loop-i.invariant.1
-          (c.after_now.ensures ∙ ap (λ (t : Picoseconds). after_now now t.0) c.entry_time.ensures.0) c.least-earliest.ensures,
-    )
+    let now = c.args.present in
+    least_loop _ _ c.loop-i.invariant
+    (c.after_now.ensures ∙ ap (λ (t : Picoseconds). after_now now t.0) c.entry_time.ensures.0) c.least-earliest.ensures
 
 pub returns : goal.returns
-returns c = least_ends _ _ c.loop-i.i (omega arith) c.loop-i.invariant.1
+returns c = least_ends _ _ c.loop-i.i (omega arith) c.loop-i.invariant

@@ -1,17 +1,12 @@
-use mathlib.Core.Path.{sym, ◌∙◌}
-use native.Mathlib.Nat.{sub-zero, add-zero}
-use native.Mathlib.Omega.{arith}
-use Rattle.records.proofs.Zeros.{zeros_none, zeros_broken, zeros_more}
+-- `zero_bytes` meets its contract: `all` asks each byte.
+use Rattle.std.proofs.Common.{ℕ, ◌≡◌, true, eqb, get_or, take, drop, ◌∙◌, rules}
+use Rattle.std.specs.Prelude.{IsTrue, ◌↔◌, EachIndex}
+use Rattle.records.proofs.All.{all_every}
+use Rattle.records.proofs.Zeros.{zeros_every}
 use Rattle.records.proofs.bytes.zero_bytes.Goals as goal
 
-pub loop-k-init : goal.loop-k-init
-loop-k-init c = (omega arith, rw (sub-zero, add-zero))
-
-pub returns-then-file-i-ne0 : goal.returns-then-file-i-ne0
-returns-then-file-i-ne0 c = zeros_broken _ _ _ _ c.loop-k-test.true c.if-file-i-ne0.true ∙ sym c.loop-k.invariant.1
-
-pub loop-k-preserved : goal.loop-k-preserved
-loop-k-preserved c = (omega arith, c.loop-k.invariant.1 ∙ zeros_more _ _ _ _ c.loop-k-test.true c.if-file-i-ne0.false)
-
 pub returns : goal.returns
-returns c = zeros_none _ _ _ _ c.loop-k-test.false ∙ sym c.loop-k.invariant.1
+returns c =
+    let run = take c.args.n (drop c.args.i c.args.file.now) in
+    let e : IsTrue c.all.result ↔ EachIndex run (λ k. eqb (get_or run k 0) 0 ≡ true) = search rules in
+    all_every (λ (b : ℕ). eqb b 0) 0 run c.all.result e ∙ zeros_every c.args.file.now c.args.n c.args.i c.requires

@@ -36,5 +36,5 @@ shape_of-whigh c = omega (arith, c.advance-went.auto.whigh, c.clear.auto.high)
 
 pub returns : goal.returns
 returns c =
-    done_went c.args.task c.lay-net.ensures.circuit c.requires.1 c.requires.2 c.advance-went.ensures
+    done_went c.args.task c.args.r c.lay-net.ensures.circuit c.requires.1 c.requires.2 c.advance-went.ensures
     (zeroed_all c.args.wletter.now c.args.wlow.now c.args.whigh.now c.advance-went.new.wletter c.advance-went.new.wlow c.advance-went.new.whigh (omega (arith, c.advance-went.auto.wletter)) (omega (arith, c.advance-went.auto.wlow)) (omega (arith, c.advance-went.auto.whigh)) c.clear.ensures)

@@ -7,18 +7,17 @@ use Rattle.run.proofs.Ends.{both_legal, zeroed_all, done_buffer, replied_refused
 use Rattle.run.proofs.go.on_replied.Goals as goal
 
 pub returns-then-not-lengths : goal.returns-then-not-lengths
-returns-then-not-lengths c = done_buffer (cell_by c.args.reply c.args.cell) c.args.task (columns c.args.letter.now c.args.low.now c.args.high.now) c.args.r (columns c.args.wletter.now c.args.wlow.now c.args.whigh.now) c.lengths.ensures (not-true _ c.if-not-lengths.true-raw) c.refused.ensures
+returns-then-not-lengths c = done_buffer (cell_by c.args.read) c.args.task (columns c.args.letter.now c.args.low.now c.args.high.now) c.args.r (columns c.args.wletter.now c.args.wlow.now c.args.whigh.now) c.lengths.ensures (not-true _ c.if-not-lengths.true-raw)
 
 pub on_legal-requires : goal.on_legal-requires
 on_legal-requires c =
     let long = both_legal (columns c.args.letter.now c.args.low.now c.args.high.now) (columns c.args.wletter.now c.args.wlow.now c.args.whigh.now) c.lengths.ensures (not-false _ c.if-not-lengths.false-raw) in
-    (c.requires.legal c.in-Done.is, long.0, long.1)
+    (rw c.in-Ok.is at c.requires.legal, long.0, long.1)
 
-pub returns-in-Done : goal.returns-in-Done
-returns-in-Done c = rw c.in-Done.is c.on_legal.ensures
+pub returns-in-Ok : goal.returns-in-Ok
+returns-in-Ok c = rw c.in-Ok.is c.on_legal.ensures
 
-pub returns-in-Refused : goal.returns-in-Refused
-returns-in-Refused c =
-    replied_refused c.requires c.in-Refused.why c.in-Refused.is c.args.task (columns c.args.letter.now c.args.low.now c.args.high.now) c.args.r (columns c.args.wletter.now c.args.wlow.now c.args.whigh.now) c.lengths.ensures (not-false _ c.if-not-lengths.false-raw)
+pub returns-in-Err : goal.returns-in-Err
+returns-in-Err c =
+    replied_refused c.requires c.in-Err.why c.in-Err.is c.args.task (columns c.args.letter.now c.args.low.now c.args.high.now) c.args.r (columns c.args.wletter.now c.args.wlow.now c.args.whigh.now) c.lengths.ensures (not-false _ c.if-not-lengths.false-raw)
     (zeroed_all c.args.wletter.now c.args.wlow.now c.args.whigh.now c.args.wletter.now c.args.wlow.now c.args.whigh.now refl refl refl c.clear.ensures)
-    c.refused-in-Refused.ensures

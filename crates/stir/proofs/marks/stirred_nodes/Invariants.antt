@@ -1,10 +1,6 @@
 -- `marks::stirred_nodes` meets its contract: node after node. Assumes nothing.
-use Prim.Native.Nat.{◌-◌}
 use Rattle.stir.proofs.Marking.{Naming}
 use Rattle.stir.proofs.marks.stirred_nodes.Given as goal
 
 abbrev pub invariant-loop-n : goal.invariant-loop-n
 invariant-loop-n l = Naming l.net l.groups l.all l.n l.out
-
-abbrev pub decreases-loop-n : goal.decreases-loop-n
-decreases-loop-n l = l.count - l.n

@@ -5,12 +5,6 @@ use Rattle.stir.proofs.reads.masked.Goals as goal
 pub loop-n-init : goal.loop-n-init
 loop-n-init c = masking_first _ _
 
-pub bounds-out-n : goal.bounds-out-n
-bounds-out-n c = omega (arith, c.loop-n-test.true, c.loop-n.invariant.long)
-
-pub loop-n-smaller : goal.loop-n-smaller
-loop-n-smaller c = omega (arith, c.loop-n-test.true)
-
 pub loop-n-preserved : goal.loop-n-preserved
 loop-n-preserved c = masking_next c.loop-n.invariant c.loop-n-test.true c.kept_entry.ensures
 

@@ -1,10 +1,6 @@
 -- `reads::needed` meets its contract: transistor after transistor. Assumes nothing.
-use Prim.Native.Nat.{◌-◌}
 use Rattle.stir.proofs.Needing.{Needing}
 use Rattle.stir.proofs.reads.needed.Given as goal
 
 abbrev pub invariant-loop-i : goal.invariant-loop-i
 invariant-loop-i l = Needing l.net l.marks l.i l.out
-
-abbrev pub decreases-loop-i : goal.decreases-loop-i
-decreases-loop-i l = l.count - l.i

@@ -1,23 +1,15 @@
 -- `parallel` follows its definition's three cases; the quotient fits 32 bits because it is at most the first operand.
-use mathlib.Core.Path.{ap}
-use Prim.Native.Nat.{ℕ, ◌+◌}
+use Prim.Native.Nat.{◌+◌}
 use native.Mathlib.Omega.{arith}
 use Rattle.units.proofs.Rounding.{ceil_div_factor}
-use Rattle.units.proofs.Laws.{positive_at}
-use Rattle.units.specs.declared.Resistance.TheVariants.{Finite}
-use Rattle.units.specs.Units.{ohms}
 use Rattle.units.specs.Rules.{parallel}
 use Rattle.units.proofs.Resistance.parallel.Goals as goal
-
-pub scaled-requires : goal.scaled-requires
-scaled-requires c =
-    omega (arith, positive_at c.in-Finite.is c.requires.0)
 
 pub overflow_cast-result : goal.overflow_cast-result
 overflow_cast-result c =
     let a = c.in-Finite.a.0 in
     let b = c.in-Finite-other.b.0 in
-    omega (arith, c.scaled.ensures, ceil_div_factor a {c = b} {b = a + b} (omega arith))
+    omega (arith, c.scaled.ensures, ceil_div_factor a {c = b} {b = c.from.result + c.from-in-Finite-other.result} (omega arith))
 
 pub returns-in-Infinite : goal.returns-in-Infinite
 unfolding parallel
@@ -29,4 +21,4 @@ returns-in-Infinite-other c = rw (c.in-Finite.is, c.in-Infinite-other.is)
 
 pub returns-in-Finite-other : goal.returns-in-Finite-other
 unfolding parallel
-returns-in-Finite-other c = rw (c.in-Finite.is, c.in-Finite-other.is) (ap (λ (n : ℕ). Finite (ohms n)) c.scaled.ensures)
+returns-in-Finite-other c = rw (c.in-Finite.is, c.in-Finite-other.is) (cc)

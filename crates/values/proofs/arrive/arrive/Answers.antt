@@ -15,18 +15,6 @@ loop-i-init c =
     let net = c.args.net.now in
     storing_first (length (net_circuit net).nodes) (arrivals (net_circuit net) (held c.args.letter.now c.args.low.now c.args.high.now c.args.r.used) c.args.r.used c.args.r.values c.args.r.changes c.args.time) c.requires.laid.1
 
-pub overflow_cast-n : goal.overflow_cast-n
-overflow_cast-n c = omega (arith, c.requires.laid.0.within.nodes, c.loop-i-test.true)
-
-pub overflow_add-n : goal.overflow_add-n
-overflow_add-n c = omega (arith, c.requires.laid.0.within.nodes, c.loop-i-test.true)
-
-pub bounds-values-i : goal.bounds-values-i
-bounds-values-i c = omega (arith, c.requires.laid.0.within.nodes, c.loop-i-test.true)
-
-pub bounds-changes-i : goal.bounds-changes-i
-bounds-changes-i c = omega (arith, c.requires.laid.0.within.nodes, c.loop-i-test.true)
-
 pub value_after-p-requires : goal.value_after-p-requires
 value_after-p-requires c =
     let full : (length c.args.r.values ≡ 24) × (length c.args.r.changes ≡ 24) = ((search rules, search rules)) in
@@ -38,18 +26,6 @@ value_after-p-requires c =
     let more = storing_longer l.invariant in
     record { laid = (c.requires.laid.0, storing_open l.invariant); n_bound = (omega (arith, small), omega arith, omega arith); leasts = leasts_less (leasts_same c.requires.leasts (storing_number l.invariant)) (omega arith) }
 
-pub shape_of-letter-then-stopped : goal.shape_of-letter-then-stopped
-shape_of-letter-then-stopped c = omega (arith, c.loop-i.invariant.letter_long, c.value_after-p.auto.letter)
-
-pub shape_of-low-then-stopped : goal.shape_of-low-then-stopped
-shape_of-low-then-stopped c = omega (arith, c.loop-i.invariant.low_long, c.value_after-p.auto.low)
-
-pub shape_of-high-then-stopped : goal.shape_of-high-then-stopped
-shape_of-high-then-stopped c = omega (arith, c.loop-i.invariant.high_long, c.value_after-p.auto.high)
-
-pub shape_of-index-then-stopped : goal.shape_of-index-then-stopped
-shape_of-index-then-stopped c = omega (arith, c.loop-i.invariant.index_long, c.value_after-p.auto.index)
-
 pub returns-then-stopped : goal.returns-then-stopped
 returns-then-stopped c =
     let full : (length c.args.r.values ≡ 24) × (length c.args.r.changes ≡ 24) = ((search rules, search rules)) in
@@ -58,36 +34,12 @@ returns-then-stopped c =
     arrive_done (net_circuit net) (held c.args.letter.now c.args.low.now c.args.high.now c.args.r.used) c.args.r (at net letters_place) c.args.time
     (storing_stop l.invariant _ c.value_after-p.ensures (λ p h. arrive_next net c.args.letter.now c.args.low.now c.args.high.now c.args.r (full).0 (full).1 c.requires.laid.0.within.nodes c.requires.laid.1.legible c.requires.r_value c.args.time l.i p _ c.loop-i-test.true (λ e g. storing_number l.invariant e p g)) (sym c.stopped.ensures ∙ c.if-stopped.true) (omega (arith, nodes_length net, c.loop-i-test.true)) _ _)
 
-pub offset_bounds-out-i : goal.offset_bounds-out-i
-offset_bounds-out-i c = omega (arith, c.requires.laid.0.within.nodes, c.loop-i-test.true)
-
-pub bounds-out-i : goal.bounds-out-i
-bounds-out-i c = omega (arith, c.requires.laid.0.within.nodes, c.loop-i-test.true)
-
-pub overflow_add-i : goal.overflow_add-i
-overflow_add-i c = omega (arith, c.requires.laid.0.within.nodes, c.loop-i-test.true)
-
-pub loop-i-smaller : goal.loop-i-smaller
-loop-i-smaller c = omega (arith, c.loop-i-test.true)
-
 pub loop-i-preserved : goal.loop-i-preserved
 loop-i-preserved c =
     let full : (length c.args.r.values ≡ 24) × (length c.args.r.changes ≡ 24) = ((search rules, search rules)) in
     let l = c.loop-i in
     let net = c.args.net.now in
     storing_next l.invariant _ c.value_after-p.ensures (λ p h. arrive_next net c.args.letter.now c.args.low.now c.args.high.now c.args.r (full).0 (full).1 c.requires.laid.0.within.nodes c.requires.laid.1.legible c.requires.r_value c.args.time l.i p _ c.loop-i-test.true (λ e g. storing_number l.invariant e p g)) (sym c.stopped.ensures ∙ c.if-stopped.false) (omega (arith, nodes_length net, c.loop-i-test.true)) (omega (arith, nodes_length net, c.requires.laid.0.within.nodes)) c.value_after-p.auto.letter c.value_after-p.auto.low c.value_after-p.auto.high c.value_after-p.auto.index
-
-pub shape_of-letter : goal.shape_of-letter
-shape_of-letter c = omega (arith, c.loop-i.invariant.letter_long)
-
-pub shape_of-low : goal.shape_of-low
-shape_of-low c = omega (arith, c.loop-i.invariant.low_long)
-
-pub shape_of-high : goal.shape_of-high
-shape_of-high c = omega (arith, c.loop-i.invariant.high_long)
-
-pub shape_of-index : goal.shape_of-index
-shape_of-index c = omega (arith, c.loop-i.invariant.index_long)
 
 pub returns : goal.returns
 returns c =

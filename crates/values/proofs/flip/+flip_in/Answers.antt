@@ -6,15 +6,8 @@ use Rattle.functions.proofs.Applying.{terminals_done}
 use Rattle.functions.proofs.Halving.{low_full, high_full, high_holds, root_done}
 use Rattle.functions.proofs.Known.{caches_found, means_stored, stored_caches}
 use Rattle.functions.proofs.Keeping.{high_within, root_caches}
-use Rattle.record.proofs.Leasts.{leasts_within}
 use Rattle.values.proofs.Flipping.{flips_later, flip_stable, flip_left, flip_halves, low_operands, low_leasts, high_open, high_operands, high_leasts}
 use Rattle.values.proofs.flip.+flip_in.Goals as goal
-
-pub offset_bounds-least-b : goal.offset_bounds-least-b
-offset_bounds-least-b t c = omega (arith, leasts_within c.requires.leasts)
-
-pub bounds-least-b : goal.bounds-least-b
-bounds-least-b t c = omega (arith, leasts_within c.requires.leasts)
 
 pub returns-then-time-least : goal.returns-then-time-least
 returns-then-time-least t c = record { outcome = flips_later c.requires.fact c.args.time c.args.a c.args.b c.requires.operand.0.within c.requires.leasts c.if-time-least.true; caches_2 = λ _. c.requires.caches }
@@ -24,18 +17,6 @@ first_letter-m-requires t c = (omega (arith, c.requires.operand.0.within, c.requ
 
 pub leaf-requires : goal.leaf-requires
 leaf-requires t c = record { a_in_bounds = (omega (arith, c.requires.operand.0.within, c.requires.fact.legible.fits, c.requires.fact.legible.low_long), omega (arith, c.requires.operand.1.within, c.requires.fact.legible.fits, c.requires.fact.legible.low_long)); holds = c.requires.fact.holds }
-
-pub shape_of-letter-then-m : goal.shape_of-letter-then-m
-shape_of-letter-then-m t c = omega (arith, c.leaf.auto.letter)
-
-pub shape_of-low-then-m : goal.shape_of-low-then-m
-shape_of-low-then-m t c = omega (arith, c.leaf.auto.low)
-
-pub shape_of-high-then-m : goal.shape_of-high-then-m
-shape_of-high-then-m t c = omega (arith, c.leaf.auto.high)
-
-pub shape_of-index-then-m : goal.shape_of-index-then-m
-shape_of-index-then-m t c = omega (arith, c.leaf.auto.index)
 
 pub returns-then-m : goal.returns-then-m
 returns-then-m t c =
@@ -60,62 +41,17 @@ overflow_sub-less t c = omega (arith, flip_left c.requires.fact c.args.time c.re
 pub flip_in-p-requires : goal.flip_in-p-requires
 flip_in-p-requires t c = (omega (arith, c.decreases, flip_left c.requires.fact c.args.time c.requires.operand.0 c.requires.operand.1 c.requires.leasts c.first_letter-m.ensures c.if-m.false), (c.requires.fact, (low_operands c.requires.fact c.args.time c.requires.operand.0 c.requires.operand.1 c.requires.leasts c.first_letter-m.ensures c.if-m.false c.parts-pa.ensures c.parts-pb.ensures, (low_leasts c.requires.fact c.args.time c.requires.operand.0 c.requires.operand.1 c.requires.leasts c.first_letter-m.ensures c.if-m.false c.parts-pa.ensures c.parts-pb.ensures, c.requires.caches))))
 
-pub shape_of-letter-then-stopped : goal.shape_of-letter-then-stopped
-shape_of-letter-then-stopped t c = omega (arith, c.flip_in-p.auto.letter)
-
-pub shape_of-low-then-stopped : goal.shape_of-low-then-stopped
-shape_of-low-then-stopped t c = omega (arith, c.flip_in-p.auto.low)
-
-pub shape_of-high-then-stopped : goal.shape_of-high-then-stopped
-shape_of-high-then-stopped t c = omega (arith, c.flip_in-p.auto.high)
-
-pub shape_of-index-then-stopped : goal.shape_of-index-then-stopped
-shape_of-index-then-stopped t c = omega (arith, c.flip_in-p.auto.index)
-
-pub shape_of-cache-then-stopped : goal.shape_of-cache-then-stopped
-shape_of-cache-then-stopped t c = omega (arith, c.flip_in-p.auto.cache)
-
 pub returns-then-stopped : goal.returns-then-stopped
 returns-then-stopped t c = record { outcome = low_full c.requires.fact (flip_halves c.requires.fact c.args.time c.requires.operand.0 c.requires.operand.1 c.requires.leasts c.first_letter-m.ensures c.if-m.false c.parts-pa.ensures c.parts-pb.ensures) c.flip_in-p.ensures.outcome (sym c.stopped.ensures ∙ c.if-stopped.true); caches_2 = λ e. true_false _ (sym c.stopped.ensures ∙ c.if-stopped.true) e }
 
 pub flip_in-q-requires : goal.flip_in-q-requires
 flip_in-q-requires t c = (omega (arith, c.decreases, flip_left c.requires.fact c.args.time c.requires.operand.0 c.requires.operand.1 c.requires.leasts c.first_letter-m.ensures c.if-m.false), (high_open c.requires.fact c.args.time c.requires.operand.0 c.requires.operand.1 c.requires.leasts c.first_letter-m.ensures c.if-m.false c.parts-pa.ensures c.parts-pb.ensures c.flip_in-p.ensures.outcome (sym c.stopped.ensures ∙ c.if-stopped.false), (high_operands c.requires.fact c.args.time c.requires.operand.0 c.requires.operand.1 c.requires.leasts c.first_letter-m.ensures c.if-m.false c.parts-pa.ensures c.parts-pb.ensures c.flip_in-p.ensures.outcome (sym c.stopped.ensures ∙ c.if-stopped.false), (high_leasts c.requires.fact c.args.time c.requires.operand.0 c.requires.operand.1 c.requires.leasts c.first_letter-m.ensures c.if-m.false c.parts-pa.ensures c.parts-pb.ensures c.flip_in-p.ensures.outcome (sym c.stopped.ensures ∙ c.if-stopped.false), c.flip_in-p.ensures.caches_2 (sym c.stopped.ensures ∙ c.if-stopped.false)))))
 
-pub shape_of-letter-then-stopped-2 : goal.shape_of-letter-then-stopped-2
-shape_of-letter-then-stopped-2 t c = omega (arith, c.flip_in-q.auto.letter, c.flip_in-p.auto.letter)
-
-pub shape_of-low-then-stopped-2 : goal.shape_of-low-then-stopped-2
-shape_of-low-then-stopped-2 t c = omega (arith, c.flip_in-q.auto.low, c.flip_in-p.auto.low)
-
-pub shape_of-high-then-stopped-2 : goal.shape_of-high-then-stopped-2
-shape_of-high-then-stopped-2 t c = omega (arith, c.flip_in-q.auto.high, c.flip_in-p.auto.high)
-
-pub shape_of-index-then-stopped-2 : goal.shape_of-index-then-stopped-2
-shape_of-index-then-stopped-2 t c = omega (arith, c.flip_in-q.auto.index, c.flip_in-p.auto.index)
-
-pub shape_of-cache-then-stopped-2 : goal.shape_of-cache-then-stopped-2
-shape_of-cache-then-stopped-2 t c = omega (arith, c.flip_in-q.auto.cache, c.flip_in-p.auto.cache)
-
 pub returns-then-stopped-2 : goal.returns-then-stopped-2
 returns-then-stopped-2 t c = record { outcome = high_full c.requires.fact (flip_halves c.requires.fact c.args.time c.requires.operand.0 c.requires.operand.1 c.requires.leasts c.first_letter-m.ensures c.if-m.false c.parts-pa.ensures c.parts-pb.ensures) c.flip_in-p.ensures.outcome (sym c.stopped.ensures ∙ c.if-stopped.false) c.flip_in-q.ensures.outcome (sym c.stopped-2.ensures ∙ c.if-stopped-2.true); caches_2 = λ e. true_false _ (sym c.stopped-2.ensures ∙ c.if-stopped-2.true) e }
 
 pub join_kept-requires : goal.join_kept-requires
 join_kept-requires t c = record { holds = (high_holds c.requires.fact (flip_halves c.requires.fact c.args.time c.requires.operand.0 c.requires.operand.1 c.requires.leasts c.first_letter-m.ensures c.if-m.false c.parts-pa.ensures c.parts-pb.ensures) c.flip_in-p.ensures.outcome (sym c.stopped.ensures ∙ c.if-stopped.false) c.flip_in-q.ensures.outcome (sym c.stopped-2.ensures ∙ c.if-stopped-2.false), high_within c.requires.fact (flip_halves c.requires.fact c.args.time c.requires.operand.0 c.requires.operand.1 c.requires.leasts c.first_letter-m.ensures c.if-m.false c.parts-pa.ensures c.parts-pb.ensures) c.flip_in-p.ensures.outcome (sym c.stopped.ensures ∙ c.if-stopped.false) c.flip_in-q.ensures.outcome (sym c.stopped-2.ensures ∙ c.if-stopped-2.false)); in_bounds = (c.flip_in-q.ensures.caches_2 (sym c.stopped-2.ensures ∙ c.if-stopped-2.false)).long }
-
-pub shape_of-letter : goal.shape_of-letter
-shape_of-letter t c = omega (arith, c.join_kept.auto.letter, c.flip_in-q.auto.letter, c.flip_in-p.auto.letter)
-
-pub shape_of-low : goal.shape_of-low
-shape_of-low t c = omega (arith, c.join_kept.auto.low, c.flip_in-q.auto.low, c.flip_in-p.auto.low)
-
-pub shape_of-high : goal.shape_of-high
-shape_of-high t c = omega (arith, c.join_kept.auto.high, c.flip_in-q.auto.high, c.flip_in-p.auto.high)
-
-pub shape_of-index : goal.shape_of-index
-shape_of-index t c = omega (arith, c.join_kept.auto.index, c.flip_in-q.auto.index, c.flip_in-p.auto.index)
-
-pub shape_of-cache : goal.shape_of-cache
-shape_of-cache t c = omega (arith, c.join_kept.auto.cache, c.flip_in-q.auto.cache, c.flip_in-p.auto.cache)
 
 pub returns : goal.returns
 returns t c = record { outcome = root_done c.requires.fact (flip_halves c.requires.fact c.args.time c.requires.operand.0 c.requires.operand.1 c.requires.leasts c.first_letter-m.ensures c.if-m.false c.parts-pa.ensures c.parts-pb.ensures) c.flip_in-p.ensures.outcome (sym c.stopped.ensures ∙ c.if-stopped.false) c.flip_in-q.ensures.outcome (sym c.stopped-2.ensures ∙ c.if-stopped-2.false) c.join_kept.ensures.outcome; caches_2 = root_caches c.requires.fact (flip_halves c.requires.fact c.args.time c.requires.operand.0 c.requires.operand.1 c.requires.leasts c.first_letter-m.ensures c.if-m.false c.parts-pa.ensures c.parts-pb.ensures) c.flip_in-p.ensures.outcome (sym c.stopped.ensures ∙ c.if-stopped.false) c.flip_in-q.ensures.outcome (sym c.stopped-2.ensures ∙ c.if-stopped-2.false) c.args.a c.args.b 0 (flip_stable c.args.time) c.requires.operand.0.within c.requires.operand.1.within (omega (arith, c.requires.operand.0.within)) refl c.join_kept.ensures.outcome (c.flip_in-q.ensures.caches_2 (sym c.stopped-2.ensures ∙ c.if-stopped-2.false)) c.join_kept.ensures.kept }

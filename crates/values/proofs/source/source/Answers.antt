@@ -6,11 +6,5 @@ use Rattle.values.proofs.source.source.Goals as goal
 pub returns-then-byte-lt2 : goal.returns-then-byte-lt2
 returns-then-byte-lt2 c = source_bit c.requires.0 c.args.byte c.if-byte-lt2.true
 
-pub overflow_sub-m : goal.overflow_sub-m
-overflow_sub-m c = omega arith
-
-pub overflow_sub-odd : goal.overflow_sub-odd
-overflow_sub-odd c = omega arith
-
 pub returns : goal.returns
 returns c = source_branch c.requires.0 c.args.byte (omega (arith, c.if-byte-lt2.false)) c.requires.1 c.join.ensures

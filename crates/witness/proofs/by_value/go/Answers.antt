@@ -4,4 +4,4 @@ use Rattle.witness.proofs.by_value.go.Goals as goal
 
 pub returns : goal.returns
 returns c =
-    let done = c.on_cell in (_, refl, done.ensures)
+    let done = c.on_cell in (_, refl, refl, done.ensures)

@@ -8,5 +8,5 @@ some-records : (r n : ℕ) → (n ≡ 0 → ⊥) → r ≡ first_from r n
 some-records r zero h = absurd (h refl)
 some-records r (suc n) h = refl
 
-pub returns : goal.returns
-returns c = some-records c.args.r c.args.count c.if-count-eq0.false
+pub returns-else-count-eq0 : goal.returns-else-count-eq0
+returns-else-count-eq0 c = some-records c.args.r c.args.count c.if-count-eq0.false

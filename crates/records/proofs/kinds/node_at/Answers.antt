@@ -1,7 +1,0 @@
--- `node_at` meets its contract.
-use Rattle.format.specs.File.{node_at}
-use Rattle.records.proofs.kinds.node_at.Goals as goal
-
-pub returns : goal.returns
-unfolding node_at
-returns c = cc
