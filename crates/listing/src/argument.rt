@@ -8,22 +8,22 @@ const LEAST: u32 = 3;
 
 const MOST: u32 = 65536;
 
-// A number from 3 to 65,536, or 0 for any other text.
-pub fn table_length(text: &[u8]) -> usize
+// A number from 3 to 65,536; no other text names a length.
+pub fn table_length(text: &[u8]) -> Option<usize>
     ensures { LengthAs text.now result }
 {
     match parse(text) {
         Ok(n) => in_range(n),
-        Err(_) => 0,
+        Err(_) => None,
     }
 }
 
-fn in_range(n: u32) -> usize
+fn in_range(n: u32) -> Option<usize>
     ensures { result ≡ length_of n }
 {
     if (LEAST..=MOST).contains(&n) {
-        n as usize
+        Some(n as usize)
     } else {
-        0
+        None
     }
 }

@@ -26,8 +26,7 @@ fn argument<R: Files, W: Write>(files: &R, output: &mut W, text: &[u8], size: us
     requires { size ≤ 65536 }
     ensures { result ≤ 65536 }
 {
-    let length = table_length(text);
-    if length != 0 {
+    if let Some(length) = table_length(text) {
         return length;
     }
     print_named(files, output, text, size);

@@ -2,7 +2,7 @@
 // One argument, a number from 3 to 65,536, is the table's length in place of 4,096.
 #![tactic(auto)]
 
-ghost use Rattle.std.specs.Prelude.{◌≤◌};
+ghost use Rattle.std.specs.Prelude.{◌≤◌, IfSome};
 
 use listing::argument::table_length;
 use listing::print::print_file;
@@ -11,26 +11,25 @@ use std::io::Write;
 use system::argument;
 
 fn main(rt: HostRuntime) {
-    let size = asked_length(&rt);
-    if size == 0 {
+    let Some(size) = asked_length(&rt) else {
         let _ = rt
             .stderr()
             .write_all(b"usage: waves [table length from 3 to 65536]\n");
         return;
-    }
+    };
     print_file(&mut rt.stdin(), &mut rt.stdout(), size);
 }
 
-// The table's length by the arguments, 4,096 without one, or 0 where they name none.
-fn asked_length<E: Env>(env: &E) -> usize
-    ensures { result ≤ 65536 }
+// The table's length by the arguments, 4,096 without one, if they name one.
+fn asked_length<E: Env>(env: &E) -> Option<usize>
+    ensures { IfSome result (λ n. n ≤ 65536) }
 {
     let mut space = [0u8; 64];
     let Some(n) = argument(env, 1, &mut space) else {
-        return 4096;
+        return Some(4096);
     };
     if argument(env, 2, &mut []).is_some() {
-        return 0;
+        return None;
     }
     table_length(&space[..n])
 }
