@@ -20,7 +20,7 @@ fn main(rt: HostRuntime) {
     print_file(&mut rt.stdin(), &mut rt.stdout(), size);
 }
 
-// The table's length by the arguments, 4,096 without one, if they name one.
+// The table's length by the arguments: 4,096 without one, none where they name no length.
 fn asked_length<E: Env>(env: &E) -> Option<usize>
     ensures { IfSome result (λ n. n ≤ 65536) }
 {
